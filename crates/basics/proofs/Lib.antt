@@ -1,0 +1,7 @@
+-- The laws of the shared definitions, for the proofs of every crate. Assumes nothing.
+pub mod BoolLaws
+pub mod SumLaws
+pub mod LargestLaws
+pub mod CheckLaws
+pub mod ByteLaws
+pub mod PartLaws

@@ -1,0 +1,4 @@
+-- The laws of marks, for this crate's proofs and those above it. Assumes nothing.
+pub mod MaskLaws
+pub mod RunLaws
+pub mod HeldLaws

@@ -1,0 +1,5 @@
+-- The laws of shares, for this crate's proofs and those above it. Assumes nothing.
+pub mod ShareLaws
+pub mod ClusterLaws
+pub mod PointLaws
+pub mod Unique

@@ -1,0 +1,8 @@
+-- The contracts leave no choice: two results that meet one are equal. Assumes nothing.
+use mathlib.Core.Path.{_≡_}
+use mathlib.Core.List.{List}
+use Prim.Native.Nat.{ℕ}
+use Rattle.shares.specs.Cluster.{clusterRefusal}
+
+pub one-refusal : (shares : List ℕ) (u r a b : ℕ) → a ≡ clusterRefusal shares u r → b ≡ clusterRefusal shares u r → a ≡ b
+one-refusal shares u r a b e f = cc

@@ -1,0 +1,9 @@
+// Clusters: which are accepted, the share of a set of members, and the point that members' values reach by share.
+mod cluster;
+mod points;
+mod totals;
+
+pub use cluster::cluster_refusal;
+pub use points::point;
+pub use totals::share;
+pub use totals::total;

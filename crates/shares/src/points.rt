@@ -1,0 +1,70 @@
+// The point that members' values reach by share.
+ghost use mathlib.Core.Path.{_≡_};
+ghost use mathlib.Core.Bool.{cond, _&&_};
+ghost use Prim.Native.Nat.{_<_, _≤_};
+ghost use lib.Dec.{leb, ltb};
+ghost use lib.ListN.{length, getD};
+ghost use Rattle.shares.specs.Point.{reachedOf, pointOf};
+
+// A member's value; a member with none has 0.
+fn value_at(values: &[u64], i: usize) -> u64
+    ensures { λ r. ⌜ r ≡ getD (now (values .entry)) i 0 ⌝ }
+{
+    if i < values.len() { values[i] } else { 0 }
+}
+
+// The share of member i where its value is at least g.
+fn reached_share(share: u32, values: &[u64], i: usize, g: u64) -> u64
+    ensures { λ r. ⌜ (r ≡ cond (leb g (getD (now (values .entry)) i 0)) share 0) × (r < 4294967296) ⌝ }
+{
+    if g <= value_at(values, i) {
+        share as u64
+    } else {
+        0
+    }
+}
+
+// The share of the members whose value is at least g.
+fn reached(shares: &[u32], values: &[u64], g: u64) -> u64
+    requires { ⌜ length (now shares) ≤ 64 ⌝ }
+    ensures { λ r. ⌜ r ≡ reachedOf (now (shares .entry)) (now (values .entry)) g ⌝ }
+{
+    let mut sum: u64 = 0;
+    let mut i = 0;
+    while i < shares.len() {
+        sum += reached_share(shares[i], values, i, g);
+        i += 1;
+    }
+    sum
+}
+
+// The better of the best point so far and a value v.
+fn better(shares: &[u32], values: &[u64], t: u64, v: u64, best: u64) -> u64
+    requires { ⌜ length (now shares) ≤ 64 ⌝ }
+    ensures { λ r. ⌜ r ≡ cond (ltb best v && leb t (reachedOf (now (shares .entry)) (now (values .entry)) v)) v best ⌝ }
+{
+    if v <= best {
+        return best;
+    }
+    if t <= reached(shares, values, v) {
+        v
+    } else {
+        best
+    }
+}
+
+// The largest g such that members whose value is at least g have share t or more, or 0. Only a member's value can be the largest.
+// inner: as for the total.
+pub fn point(shares: &[u32], values: &[u64], t: u64) -> u64
+    requires { ⌜ length (now shares) ≤ 64 ⌝ }
+    ensures { λ r. ⌜ r ≡ pointOf (now (shares .entry)) (now (values .entry)) t ⌝ }
+{
+    let mut best: u64 = 0;
+    let mut i = 0;
+    while i < shares.len() {
+        let v = value_at(values, i);
+        best = better(shares, values, t, v, best);
+        i += 1;
+    }
+    best
+}

@@ -1,0 +1,48 @@
+// Shares of members: of all of them, and of a set.
+ghost use mathlib.Core.Path.{_≡_};
+ghost use mathlib.Core.Bool.{cond};
+ghost use Prim.Native.Nat.{_<_, _≤_, _*_};
+ghost use lib.ListN.{length};
+ghost use Rattle.marks.specs.Masks.{isMarked};
+ghost use Rattle.shares.specs.Shares.{totalOf, shareOf};
+
+// The total share D.
+// inner: the sum is known to fit for as many members as a cluster may have, and a cluster is judged by its length first.
+pub fn total(shares: &[u32]) -> u64
+    requires { ⌜ length (now shares) ≤ 64 ⌝ }
+    ensures { λ r. ⌜ (r ≡ totalOf (now (shares .entry))) × (r < 64 * 4294967296) ⌝ }
+{
+    let mut sum: u64 = 0;
+    let mut i = 0;
+    while i < shares.len() {
+        sum += basics::wide(shares[i]);
+        i += 1;
+    }
+    sum
+}
+
+// The share of member i where the set names it.
+fn named_share(share: u32, members: u64, i: usize) -> u64
+    ensures { λ r. ⌜ (r ≡ cond (isMarked members i) share 0) × (r < 4294967296) ⌝ }
+{
+    if marks::is_marked(members, i as u64) {
+        share as u64
+    } else {
+        0
+    }
+}
+
+// The share of a set of members, a bit for each.
+// inner: as for the total.
+pub fn share(shares: &[u32], members: u64) -> u64
+    requires { ⌜ length (now shares) ≤ 64 ⌝ }
+    ensures { λ r. ⌜ (r ≡ shareOf (now (shares .entry)) (isMarked members)) × (r < 64 * 4294967296) ⌝ }
+{
+    let mut sum: u64 = 0;
+    let mut i = 0;
+    while i < shares.len() {
+        sum += named_share(shares[i], members, i);
+        i += 1;
+    }
+    sum
+}
