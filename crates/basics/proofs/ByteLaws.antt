@@ -10,7 +10,8 @@ use lib.Dec.{lit<, eqb, ltb, eqb·suc-zero}
 use lib.ListN.{length, getD, take, drop, set, replicate, drop-of-length-le, length-append, length-drop, length-take, List·getD-eq-default}
 use lib.Seq.{drop-cons, getD-drop, getD-take, set-at, append-snoc}
 use borrow.Author.Needs.{needs}
-use borrow.Author.Tests.{eq-eqb, ne-eqb, ltb-true, ltb-false}
+use borrow.Author.Tests.{eq-eqb, ne-eqb, eqb-true, ltb-true, ltb-false}
+use borrow.Rule.Slice.PartMut.{mid-len}
 use mir.Val.{Fits}
 use mir.Facts.{fits-lit}
 use mir.Syntax.{w8, w64}
@@ -143,3 +144,15 @@ unfolding allZero
 zeros [] h = refl
 zeros (zero ∷ l) h = ap (λ (t : List ℕ). 0 ∷ t) (zeros l h)
 zeros (suc x ∷ l) h = no-both (and-left (eqb (suc x) 0) (allZero l) h) (eqb·suc-zero x)
+
+pub zero-number : (l : List ℕ) → allZero l ≡ true → leOf l ≡ 0
+unfolding leOf allZero
+zero-number [] h = refl
+zero-number (x ∷ l) h = omega (arith, eqb-true x 0 (and-left (eqb x 0) (allZero l) h), zero-number l (and-right (eqb x 0) (allZero l) h))
+
+-- ---- a part of bytes, as zeros and as a number
+pub part-zeros : (s : List ℕ) (a e : ℕ) → e ≤ length s → allZero (part a e s) ≡ true → part a e s ≡ replicate (e - a) 0
+part-zeros s a e h z = zeros (part a e s) z ∙ ap (λ (n : ℕ). replicate n 0) (mid-len a e s h)
+
+pub part-back : (s : List ℕ) (a e : ℕ) → e ≤ length s → Bytes s → leBytes (e - a) (leOf (part a e s)) ≡ part a e s
+part-back s a e h b = ap (λ (n : ℕ). leBytes n (leOf (part a e s))) (sym (mid-len a e s h)) ∙ le-forth (part a e s) (bytes-part s (e - a) a b)

@@ -7,8 +7,8 @@ use native.Mathlib.Nat.{add-mul, zero-mul}
 use native.Mathlib.Numerals.{add-one}
 use native.Mathlib.Decide.{decLt}
 use native.Mathlib.Omega.{arith}
-use lib.ListN.{length, getD, drop, set, length-append}
-use lib.Seq.{drop-cons, set-at, append-snoc}
+use lib.ListN.{length, getD, drop, set, length-append, List·getD-append}
+use lib.Seq.{drop-cons, set-at, append-snoc, getD-at, ext-getD}
 use borrow.Author.Needs.{needs}
 use Rattle.basics.specs.Sums.{sumBelow, allBelow, highestBelow, listBelow}
 use Rattle.basics.proofs.BoolLaws.{and-both, and-left, and-right}
@@ -118,20 +118,33 @@ highest-le f b zero h = zero-le
 highest-le f b (suc n) h = omega (arith, highest-le f b n (λ j l. h j (omega arith)), h n (omega arith))
 
 -- ---- lists
-pub list-start : (f : ℕ → ℕ) (o : List ℕ) → o ≡ listBelow 0 f ++ drop 0 o
-unfolding listBelow
-list-start f [] = refl
-list-start f (x ∷ o) = refl
+module _ {A : Type 0} (f : ℕ → A) where
+  pub list-start : (o : List A) → o ≡ listBelow 0 f ++ drop 0 o
+  unfolding listBelow
+  list-start [] = refl
+  list-start (x ∷ o) = refl
 
-pub length-list : (f : ℕ → ℕ) (n : ℕ) → length (listBelow n f) ≡ n
-unfolding listBelow
-length-list f zero = refl
-length-list f (suc n) = length-append (listBelow n f) (f n ∷ []) ∙ omega (arith, length-list f n)
+  pub length-list : (n : ℕ) → length (listBelow n f) ≡ n
+  unfolding listBelow
+  length-list zero = refl
+  length-list (suc n) = length-append (listBelow n f) (f n ∷ []) ∙ omega (arith, length-list n)
 
--- one more element, stored behind those that are there
-pub list-turn : (f : ℕ → ℕ) {i v : ℕ} {l : List ℕ} (o : List ℕ) → l ≡ listBelow i f ++ drop i o → i < length l → length l ≡ length o → v ≡ f i → set l i v ≡ listBelow (i + 1) f ++ drop (i + 1) o
-unfolding listBelow
-list-turn f {i} {v} {l} o e h n q =
-    let inside : i < length o = omega arith in
-    rw (add-one, e, drop-cons o i 0, q)
-    (set-at (listBelow i f) (getD o i 0) (drop (suc i) o) (f i) i (length-list f i) ∙ sym (append-snoc (listBelow i f) (f i) (drop (suc i) o)))
+  -- one more element, stored behind those that are there
+  pub list-turn : {i : ℕ} {v : A} {l : List A} (o : List A) → l ≡ listBelow i f ++ drop i o → i < length l → length l ≡ length o → v ≡ f i → set l i v ≡ listBelow (i + 1) f ++ drop (i + 1) o
+  unfolding listBelow
+  list-turn {i} {v} {l} o e h n q =
+      let inside : i < length o = omega arith in
+      rw (add-one, e, drop-cons o i (f i), q)
+      (set-at (listBelow i f) (getD o i (f i)) (drop (suc i) o) (f i) i (length-list i) ∙ sym (append-snoc (listBelow i f) (f i) (drop (suc i) o)))
+
+  pub list-at : (d : A) (n j : ℕ) → j < n → getD (listBelow n f) j d ≡ f j
+  unfolding listBelow
+  list-at d zero j l = absurd (omega arith)
+  list-at d (suc n) j l = elim (decLt j n) [
+    | yes m ↦ List·getD-append (listBelow n f) (f n ∷ []) d j (omega (arith, length-list n)) ∙ list-at d n j m
+    | no m ↦ (let e : j ≡ n = omega arith in rw e (getD-at (listBelow n f) (f n) [] d n (length-list n)))
+  ]
+
+  -- a list is known by its places
+  pub list-is : (d : A) (n : ℕ) (l : List A) → length l ≡ n → ((j : ℕ) → j < n → getD l j d ≡ f j) → l ≡ listBelow n f
+  list-is d n l e h = ext-getD d l (listBelow n f) (omega (arith, length-list n)) (λ j m. h j (omega arith) ∙ sym (list-at d n j (omega arith)))

@@ -19,6 +19,6 @@ highestBelow zero f = 0
 highestBelow (suc n) f = max (highestBelow n f) (f n)
 
 -- f 0, f 1, .., f (n - 1)
-unfoldable pub listBelow : ℕ → (ℕ → ℕ) → List ℕ
+unfoldable pub listBelow {ℓ} : {A : Type ℓ} → ℕ → (ℕ → A) → List A
 listBelow zero f = []
 listBelow (suc n) f = listBelow n f ++ (f n ∷ [])

@@ -2,3 +2,4 @@
 pub mod MaskLaws
 pub mod RunLaws
 pub mod HeldLaws
+pub mod SetLaws

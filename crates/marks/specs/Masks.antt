@@ -1,7 +1,8 @@
 -- A 64-bit mask as a set of bits. Assumes nothing.
-use mathlib.Core.Bool.{Bool, cond}
+use mathlib.Core.Bool.{Bool, cond, not, _||_}
 use Prim.Native.Nat.{ℕ, zero, suc, _+_, _-_, _/_, _%_, _^_}
 use lib.Dec.{eqb, ltb}
+use Rattle.basics.specs.Sums.{allBelow}
 
 -- bit b of the mask is marked
 unfoldable pub isMarked : ℕ → ℕ → Bool
@@ -37,3 +38,12 @@ reachIn (suc n) mask = cond (eqb mask 0) 0 (suc (reachIn n (mask / 2)))
 
 unfoldable pub reachOf : ℕ → ℕ
 reachOf mask = reachIn 64 mask
+
+-- every bit that is marked in a is marked in b
+unfoldable pub isSubset : ℕ → ℕ → Bool
+isSubset a b = allBelow 64 (λ j. not (isMarked a j) || isMarked b j)
+
+-- the set of the numbers below n that pass a test, a bit for each
+unfoldable pub setBelow : ℕ → (ℕ → Bool) → ℕ
+setBelow zero p = 0
+setBelow (suc n) p = cond (p n) (withMark (setBelow n p) n) (setBelow n p)

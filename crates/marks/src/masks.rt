@@ -1,7 +1,7 @@
 // A 64-bit mask as a set of bits.
 ghost use mathlib.Core.Path.{_≡_};
 ghost use Prim.Native.Nat.{_/_, _^_, _≤_};
-ghost use Rattle.marks.specs.Masks.{isMarked, markOf, unmarkOf, runOf, reachOf};
+ghost use Rattle.marks.specs.Masks.{isMarked, markOf, unmarkOf, runOf, reachOf, isSubset};
 
 // Whether bit b is marked.
 pub fn is_marked(mask: u64, b: u64) -> bool
@@ -43,4 +43,11 @@ pub fn reach(mask: u64) -> u64
     ensures { λ r. ⌜ (r ≡ reachOf mask) × (r ≤ 64) ⌝ }
 {
     (64 - u64::leading_zeros(mask)) as u64
+}
+
+// Whether every bit that is marked in a is marked in b.
+pub fn is_subset(a: u64, b: u64) -> bool
+    ensures { λ r. ⌜ r ≡ isSubset a b ⌝ }
+{
+    a & !b == 0
 }
