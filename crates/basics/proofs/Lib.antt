@@ -5,3 +5,4 @@ pub mod LargestLaws
 pub mod CheckLaws
 pub mod ByteLaws
 pub mod PartLaws
+pub mod Unique

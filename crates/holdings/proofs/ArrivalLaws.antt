@@ -52,9 +52,9 @@ pub accepted-low : (h : Holdings) (k n : ℕ) → n ≡ arrivalRefusal h k → n
 accepted-low h k n e z = formed-low h (accepts h k (sym e ∙ z) .formed)
 
 -- ---- c rises over the run of marks
-pub rises : (c m d x y : ℕ) → d ≡ runOf m → x ≡ d → y ≡ m / 2 ^ d → _≡_ {A = Holdings} (record { number = c + x; mask = y }) (risenOf c m)
+pub rises : (c m d x y : ℕ) → d ≡ runOf m → x ≡ d → y ≡ m / 2 ^ x → _≡_ {A = Holdings} (record { number = c + x; mask = y }) (risenOf c m)
 unfolding risenOf
-rises c m d x y e f g = rw (f, g, e) refl
+rises c m d x y e f g = rw (g, f, e) refl
 
 -- ---- a message is taken in
 pub taken-held : (h : Holdings) (k : ℕ) → k ≤ h .number → h ≡ takenOf h k

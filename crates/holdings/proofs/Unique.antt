@@ -1,7 +1,8 @@
 -- Each public call's contract determines its answer, and the lent holdings: two results that meet it are equal. Assumes nothing.
-use mathlib.Core.Path.{_≡_, sym, _∙_}
+use mathlib.Core.Path.{_≡_}
 use mathlib.Core.Bool.{Bool}
 use Prim.Native.Nat.{ℕ}
+use Rattle.basics.proofs.Unique.{one-answer, one-answer-and-exit}
 use Rattle.holdings.specs.State.{freshHoldings, wellFormed, reportOf}
 use Rattle.holdings.specs.Arrival.{arrivalOf}
 use Rattle.holdings.specs.declared.state.Holdings.{Holdings}
@@ -9,20 +10,20 @@ use Rattle.holdings.specs.declared.state.ReportAnswer.{ReportAnswer}
 use Rattle.holdings.specs.declared.arrival.ArrivalAnswer.{ArrivalAnswer}
 
 pub fresh-unique : {r s : Holdings} → r ≡ freshHoldings → s ≡ freshHoldings → r ≡ s
-fresh-unique p q = p ∙ sym q
+fresh-unique p q = one-answer p q
 
 pub well-formed-unique : (h : Holdings) {r s : Bool} → r ≡ wellFormed h → s ≡ wellFormed h → r ≡ s
-well-formed-unique h p q = p ∙ sym q
+well-formed-unique h p q = one-answer p q
 
 pub report-unique : (h : Holdings) {r s : ReportAnswer} → r ≡ reportOf h → s ≡ reportOf h → r ≡ s
-report-unique h p q = p ∙ sym q
+report-unique h p q = one-answer p q
 
 pub arrive-unique : (h : Holdings) (k : ℕ) {r s : ArrivalAnswer} → r ≡ arrivalOf h k → s ≡ arrivalOf h k → r ≡ s
-arrive-unique h k p q = p ∙ sym q
+arrive-unique h k p q = one-answer p q
 
 -- the number handed back, and the lent holdings after the call
 pub arrive-at-unique : (h : Holdings) (k : ℕ) {r s : ℕ} {x y : Holdings} →
     (r ≡ arrivalOf h k .refusal) × (x ≡ arrivalOf h k .holdings) →
     (s ≡ arrivalOf h k .refusal) × (y ≡ arrivalOf h k .holdings) →
     (r ≡ s) × (x ≡ y)
-arrive-at-unique h k p q = (p .0 ∙ sym (q .0), p .1 ∙ sym (q .1))
+arrive-at-unique h k p q = one-answer-and-exit p q

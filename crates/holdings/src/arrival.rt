@@ -37,9 +37,9 @@ fn risen(number: u64, mask: u64) -> Holdings
     requires { ⌜ number ≤ 1000000000000 ⌝ }
     ensures { λ r. ⌜ r ≡ risenOf number mask ⌝ }
 {
-    let rise = run(mask);
+    let rise = wide(run(mask));
     Holdings {
-        number: number + wide(rise),
+        number: number + rise,
         mask: past(mask, rise),
     }
 }

@@ -15,8 +15,8 @@ use mir.Val.{Fits}
 use mir.Syntax.{w64}
 use Rattle.basics.proofs.BoolLaws.{bool-cases, same-test, no-both, or-cases}
 use Rattle.basics.proofs.SumLaws.{all-at, all-of}
-use Rattle.marks.specs.Masks.{isMarked, withMark, isSubset, setBelow}
-use Rattle.marks.proofs.MaskLaws.{marked-step, marked-low, marked-none, marked-beyond, marked-with, same-marks, with-lt}
+use Rattle.marks.specs.Masks.{isMarked, withMark, markOf, isSubset, setBelow}
+use Rattle.marks.proofs.MaskLaws.{marked-step, marked-low, marked-none, marked-beyond, marked-with, same-marks, with-lt, mark-is}
 
 -- ---- the bits of an and, and of a complement
 digit-and : (x y : ℕ) → x < 2 → y < 2 → eqb (bitAnd x y) 1 ≡ (eqb x 1 && eqb y 1)
@@ -101,6 +101,24 @@ set-in p n {t} e h = rw (add-one, e) (sym (simp h))
 pub set-out : (p : ℕ → Bool) (n : ℕ) {t : ℕ} → t ≡ setBelow n p → p n ≡ false → t ≡ setBelow (n + 1) p
 unfolding setBelow
 set-out p n {t} e h = rw (add-one, e) (sym (simp h))
+
+-- a turn of a loop that builds the set, and its end
+pub set-turn : (p : ℕ → Bool) (i n : ℕ) {t r : ℕ} → i < n → n ≤ 64 → t ≡ setBelow i p → r ≡ cond (p i) (markOf t i) t → r ≡ setBelow (i + 1) p
+set-turn p i n {t} {r} l few e q = elim (bool-cases (p i)) [
+  | inl b ↦ q ∙ simp b (mark-is t i (omega arith) ∙ set-in p i e b)
+  | inr b ↦ q ∙ simp b (set-out p i e b)
+]
+
+pub set-done : (p : ℕ → Bool) (i n : ℕ) {t : ℕ} → t ≡ setBelow i p → i ≤ n → n ≤ i → t ≡ setBelow n p
+set-done p i n {t} e a b = let z : i ≡ n = omega arith in rw z at e
+
+-- a bit comes into the set or it does not
+module _ (t i r : ℕ) (b : Bool) where
+  pub comes-in : b ≡ true → r ≡ markOf t i → r ≡ cond b (markOf t i) t
+  comes-in h q = simp h q
+
+  pub stays-out : b ≡ false → t ≡ cond b (markOf t i) t
+  stays-out h = simp h
 
 pub set-lt : (p : ℕ → Bool) (n : ℕ) → setBelow n p < 2 ^ n
 unfolding setBelow

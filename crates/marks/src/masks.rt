@@ -32,7 +32,7 @@ pub fn run(mask: u64) -> u32
 }
 
 // The mask moved down by d bits: past all 64 there is nothing left, and no shift is made.
-pub fn past(mask: u64, d: u32) -> u64
+pub fn past(mask: u64, d: u64) -> u64
     ensures { λ r. ⌜ r ≡ mask / 2 ^ d ⌝ }
 {
     if d < 64 { mask >> d } else { 0 }

@@ -2,7 +2,8 @@
 use mathlib.Core.Path.{_≡_}
 use mathlib.Core.List.{List}
 use Prim.Native.Nat.{ℕ}
+use Rattle.basics.proofs.Unique.{one-answer}
 use Rattle.shares.specs.Cluster.{clusterRefusal}
 
 pub one-refusal : (shares : List ℕ) (u r a b : ℕ) → a ≡ clusterRefusal shares u r → b ≡ clusterRefusal shares u r → a ≡ b
-one-refusal shares u r a b e f = cc
+one-refusal shares u r a b e f = one-answer e f
