@@ -1,0 +1,41 @@
+-- The deal of an accepted cluster has just q slots, and whoever sends or receives a message is a member. Assumes nothing.
+use mathlib.Core.Path.{_≡_, _∙_}
+use mathlib.Core.Bool.{true}
+use mathlib.Core.List.{List}
+use Prim.Native.Nat.{ℕ, _+_, _%_, _<_, min}
+use native.Mathlib.Omega.{arith}
+use lib.ListN.{length, getD}
+use Rattle.basics.specs.Ranges.{isQuantum}
+use Rattle.basics.proofs.SumLaws.{sum-cong, list-at}
+use Rattle.shares.specs.Cluster.{Accepted}
+use Rattle.deal.specs.Hamilton.{countOf, countsOf, Dealable}
+use Rattle.deal.specs.Rounds.{dealOf, slotsBefore}
+use Rattle.deal.specs.Pairs.{senderOf, receiverOf, slotOf, quantumOf}
+use Rattle.deal.proofs.QuotaLaws.{counts-sum, count-le}
+use Rattle.deal.proofs.SlotLaws.{length-deal, owner-below}
+use Rattle.deal.proofs.JudgeLaws.{dealable}
+use Rattle.deal.proofs.PairLaws.{length-counts}
+
+module _ (s : List ℕ) (u r q : ℕ) (a : Accepted s u r) (b : isQuantum q ≡ true) where
+  abbrev deals : Dealable s q
+  deals = dealable s u r q a b
+
+  -- no count is above q, so q rounds deal every count
+  all-dealt : slotsBefore (countsOf s q) q ≡ q
+  unfolding slotsBefore countsOf
+  all-dealt =
+      rw (length-counts s q)
+      (sum-cong (λ i. min (getD (countsOf s q) i 0) q) (countOf s q) (length s)
+      (λ i l. omega (arith, list-at (countOf s q) 0 (length s) i l, count-le s q deals i l)) ∙ counts-sum s q deals)
+
+  -- the deal has exactly q slots
+  pub deal-has-q-slots : length (dealOf (countsOf s q) q) ≡ q
+  deal-has-q-slots = length-deal (countsOf s q) q ∙ all-dealt
+
+  pub sender-is-a-member : (k : ℕ) → senderOf s q k < length s
+  unfolding senderOf
+  sender-is-a-member k = rw (length-counts s q) at (owner-below (countsOf s q) q (slotOf q k) (omega (arith, a .some-member, length-counts s q)))
+
+  pub receiver-is-a-member : (k : ℕ) → receiverOf s q k < length s
+  unfolding receiverOf
+  receiver-is-a-member k = rw (length-counts s q) at (owner-below (countsOf s q) q ((slotOf q k + quantumOf q k) % q) (omega (arith, a .some-member, length-counts s q)))
