@@ -1,0 +1,7 @@
+// Resend pairs: who sends a message again, to whom, and how many units its run takes.
+mod known;
+mod pairs;
+
+pub use known::known_resend;
+pub use pairs::ResendAnswer;
+pub use pairs::resend_pair;

@@ -1,0 +1,210 @@
+// Judging a report, and the open messages: which refusal, which verdicts.
+use crate::columns::lacking;
+use crate::columns::masks_of;
+use crate::columns::numbers_of;
+use crate::state::Downstream;
+use crate::state::Entry;
+use crate::state::Report;
+use crate::state::Window;
+ghost use mathlib.Core.Path.{_≡_};
+ghost use mathlib.Core.Bool.{cond};
+ghost use Prim.Native.Nat.{ℕ, _≤_, _+_};
+ghost use lib.ListN.{length, getD};
+ghost use Rattle.marks.specs.Masks.{isMarked, markOf, setBelow};
+ghost use Rattle.window.specs.State.{noEntry, placeAfter, isQuacked};
+ghost use Rattle.window.specs.Reporting.{keepsAll, reportRefusal};
+ghost use Rattle.window.specs.Complaints.{entriesAfter};
+ghost use Rattle.window.specs.Verdicts.{isDue, dueOf, raisedEntry, judgedOf, Judging};
+
+// Whether nothing is lacking that the former report held. What it marked is seen from the new number: moved down by as much.
+fn keeps_all(former: Report, c: u64, mask: u64) -> bool
+    ensures { λ r. ⌜ r ≡ keepsAll former c mask ⌝ }
+{
+    if c < former.number {
+        return false;
+    }
+    let marked = marks::past(former.mask, c - former.number);
+    marks::is_subset(marked, mask)
+}
+
+// The refusal that a report gets: 17, 5, 8, 12, 11, 13 in this order, 0 for none.
+pub fn report_refusal(w: Window, i: u32, c: u64, mask: u64, room: usize) -> u32
+    ensures { λ r. ⌜ r ≡ reportRefusal w i c mask room ⌝ }
+{
+    if !w.well_formed() {
+        return 17;
+    }
+    if room < 1_024 {
+        return 5;
+    }
+    let members = w.downstream.cluster.members;
+    if members <= i {
+        return 8;
+    }
+    if marks::is_marked(mask, 0) {
+        return 12;
+    }
+    if !marks::none_above(c, mask, w.sent) {
+        return 11;
+    }
+    let at = i as usize;
+    let reports = w.downstream.reports;
+    if !keeps_all(reports[at], c, mask) {
+        return 13;
+    }
+    0
+}
+
+// Whether message k is QUACKed: by what the members that lack it leave of the total.
+fn is_quacked(shares: &[u32], u: u32, numbers: &[u64; 64], masks: &[u64; 64], k: u64) -> bool
+    requires { ⌜ length (now shares) ≤ 64 ⌝ }
+    ensures { λ b. ⌜ b ≡ isQuacked (now (shares .entry)) u (now (numbers .entry)) (now (masks .entry)) k ⌝ }
+{
+    let without = shares::share(shares, lacking(numbers, masks, shares.len(), k));
+    let total = shares::total(shares);
+    u as u64 + 1 + without <= total
+}
+
+// Whether a verdict on message k is due. The dear question, who holds it, is asked last.
+fn is_due(
+    shares: &[u32],
+    u: u32,
+    r: u32,
+    numbers: &[u64; 64],
+    masks: &[u64; 64],
+    k: u64,
+    e: Entry,
+) -> bool
+    requires { ⌜ length (now shares) ≤ 64 ⌝ }
+    ensures { λ b. ⌜ b ≡ isDue (now (shares .entry)) u r (now (numbers .entry)) (now (masks .entry)) k e ⌝ }
+{
+    if 255 <= e.count {
+        return false;
+    }
+    let against = shares::share(shares, e.complaints);
+    if against < r as u64 + 1 {
+        return false;
+    }
+    !is_quacked(shares, u, numbers, masks, k)
+}
+
+// The set with offset o in it, where its message is due.
+fn with_due(
+    set: u64,
+    o: u64,
+    shares: &[u32],
+    u: u32,
+    r: u32,
+    numbers: &[u64; 64],
+    masks: &[u64; 64],
+    k: u64,
+    e: Entry,
+) -> u64
+    requires { ⌜ length (now shares) ≤ 64 ⌝ }
+    ensures { λ b. ⌜ b ≡ cond (isDue (now (shares .entry)) u r (now (numbers .entry)) (now (masks .entry)) k e) (markOf set o) set ⌝ }
+{
+    if is_due(shares, u, r, numbers, masks, k, e) {
+        marks::mark(set, o)
+    } else {
+        set
+    }
+}
+
+// Those of the n messages after p that are due, a bit for each.
+fn due_among(
+    shares: &[u32],
+    u: u32,
+    r: u32,
+    numbers: &[u64; 64],
+    masks: &[u64; 64],
+    entries: [Entry; 64],
+    p: u64,
+    n: u64,
+) -> u64
+    requires { ⌜ (length (now shares) ≤ 64) × (p ≤ 1000000000000) × (n ≤ 64) ⌝ }
+    ensures { λ b. ⌜ b ≡ setBelow n (λ o. isDue (now (shares .entry)) u r (now (numbers .entry)) (now (masks .entry)) (p + 1 + o) (getD entries (placeAfter p o) noEntry)) ⌝ }
+{
+    let mut set: u64 = 0;
+    let mut o: u64 = 0;
+    while o < n {
+        let at = ((p + o) % 64) as usize;
+        set = with_due(set, o, shares, u, r, numbers, masks, p + 1 + o, entries[at]);
+        o += 1;
+    }
+    set
+}
+
+// The messages from p + 1 up to S that are due, a bit for each.
+// inner: for the report step, which has judged the report.
+pub fn due(d: Downstream, s: u64) -> u64
+    requires { ⌜ Judging d s ⌝ }
+    ensures { λ b. ⌜ b ≡ dueOf d s ⌝ }
+{
+    let p = d.point;
+    let n = d.cluster.members as usize;
+    let shares = d.cluster.shares;
+    let reports = d.reports;
+    let numbers = numbers_of(reports);
+    let masks = masks_of(reports);
+    let entries = d.entries;
+    due_among(
+        &shares[..n],
+        d.cluster.u,
+        d.cluster.r,
+        &numbers,
+        &masks,
+        entries,
+        p,
+        s - p,
+    )
+}
+
+// An entry whose message is due: the count raised, the set emptied.
+fn raised(due: u64, o: u64, e: Entry) -> Entry
+    requires { ⌜ e .count ≤ 255 ⌝ }
+    ensures { λ r. ⌜ r ≡ cond (isMarked due o) (raisedEntry e) e ⌝ }
+{
+    if marks::is_marked(due, o) {
+        return Entry {
+            count: e.count + 1,
+            complaints: 0,
+        };
+    }
+    e
+}
+
+fn raised_entries(due: u64, p: u64, n: u64, entries: [Entry; 64]) -> [Entry; 64]
+    requires { ⌜ (p ≤ 1000000000000) × (n ≤ 64) × ((j : ℕ) → getD entries j noEntry .count ≤ 255) ⌝ }
+    ensures { λ r. ⌜ r ≡ entriesAfter (λ o e. cond (isMarked due o) (raisedEntry e) e) p n entries ⌝ }
+{
+    let mut next = [Entry {
+        count: 0,
+        complaints: 0,
+    }; 64];
+    let mut o: u64 = 0;
+    while o < n {
+        let at = ((p + o) % 64) as usize;
+        next[at] = raised(due, o, entries[at]);
+        o += 1;
+    }
+    next
+}
+
+// The state after the verdicts on the messages up to S, those that are due being known.
+// inner: for the report step, which has judged the report.
+pub fn judged(d: Downstream, s: u64, due: u64) -> Downstream
+    requires { ⌜ (Judging d s) × (due ≡ dueOf d s) ⌝ }
+    ensures { λ r. ⌜ r ≡ judgedOf d s ⌝ }
+{
+    let cluster = d.cluster;
+    let point = d.point;
+    let reports = d.reports;
+    let before = d.entries;
+    let entries = raised_entries(due, point, s - point, before);
+    Downstream {
+        cluster,
+        point,
+        reports,
+        entries,
+    }
+}

@@ -1,0 +1,83 @@
+// Reports.
+use crate::complaints::taken;
+use crate::judging::due;
+use crate::judging::judged;
+use crate::judging::report_refusal;
+use crate::state::Cluster;
+use crate::state::Downstream;
+use crate::state::Window;
+use crate::verdicts::write_verdicts;
+ghost use mathlib.Core.Path.{_≡_};
+ghost use lib.ListN.{length};
+ghost use Rattle.window.specs.Reporting.{Reportable};
+ghost use Rattle.window.specs.Answers.{stepOf, stepOut, reportOf, reportOut};
+
+// The number of the refusal, 0 for none, how many verdicts were written, and the next state.
+pub struct ReportAnswer {
+    pub refusal: u32,
+    pub verdicts: u32,
+    pub window: Window,
+}
+
+// What an accepted report does to all that belongs to the receiving cluster.
+pub struct Step {
+    pub verdicts: u32,
+    pub downstream: Downstream,
+}
+
+// The steps of an accepted report, over the sending cluster, q and S, and one receiving cluster.
+fn step_of(
+    sending: Cluster,
+    quantum: u32,
+    sent: u64,
+    before: Downstream,
+    member: u32,
+    number: u64,
+    mask: u64,
+    out: &mut [u8],
+) -> Step
+    requires { ⌜ Reportable (record { sending = sending; quantum = quantum; sent = sent; downstream = before }) member number mask (length (now out)) ⌝ }
+    ensures { λ r. ⌜ (r ≡ stepOf before sent member number mask) × (now (out .exit) ≡ stepOut sending quantum before sent member number mask (now (out .entry))) ⌝ }
+{
+    let d = taken(before, sent, member, number, mask);
+    let lost = due(d, sent);
+    let verdicts = write_verdicts(sending, quantum, d, sent, lost, out);
+    let downstream = judged(d, sent, lost);
+    Step {
+        verdicts,
+        downstream,
+    }
+}
+
+impl Window {
+    // Takes a report from a member: its cumulative number and its mask. Verdicts go into the lent output, one after another.
+    pub fn report(mut self, member: u32, number: u64, mask: u64, out: &mut [u8]) -> ReportAnswer
+        ensures { λ r. ⌜ (r ≡ reportOf self member number mask (length (now (out .entry)))) × (now (out .exit) ≡ reportOut self member number mask (now (out .entry))) ⌝ }
+    {
+        let refusal = report_refusal(self, member, number, mask, out.len());
+        if refusal != 0 {
+            return ReportAnswer {
+                refusal,
+                verdicts: 0,
+                window: self,
+            };
+        }
+        let s = step_of(
+            self.sending,
+            self.quantum,
+            self.sent,
+            self.downstream,
+            member,
+            number,
+            mask,
+            out,
+        );
+        let next = s.downstream;
+        self.downstream = next;
+        ReportAnswer {
+            refusal: 0,
+            verdicts: s.verdicts,
+            window: self,
+        }
+    }
+}
