@@ -1,9 +1,15 @@
 # Two commands: `make plan` prints a sending plan, `make test` runs every proof and test.
 .PHONY: plan test
 
-# The plan program is not part of this state of the library; when it is, this prints its plan for the example that ships with it.
+# The input that ships with the plan program, or another: make plan IN=file
+IN ?= crates/plan/stdin
+
+# What the check says goes to standard error, so that standard output has the plan alone.
 plan:
-	@echo "No plan yet: the plan program has not been built. 'make test' proves what is here." >&2; exit 1
+	@test -r "$(IN)" || { echo "make plan: cannot read $(IN)" >&2; exit 1; }
+	@echo "make plan: proving and building the plan program; minutes the first time, a second after that" >&2
+	@rt check plan >&2
+	@target/bin/plan <"$(IN)"
 
 test:
 	@bash .ci/run

@@ -1,0 +1,8 @@
+// The plan program's work: from the bytes of its input to the bytes of its text.
+mod input;
+mod lines;
+mod planning;
+mod text;
+
+pub use planning::ROOM;
+pub use planning::plan;
