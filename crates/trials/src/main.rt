@@ -1,0 +1,23 @@
+// Runs the cases on standard input through the library, one to a line, and writes each line back with what the call answered.
+// A case is a word and decimal numbers, one space between; a line that starts with any other word, as #, is a remark.
+//
+// The expected lines were not taken from a run: they were worked out by an independent model of document 01, written from
+// the document alone, and the refusals by hand from its table and its orders.
+mod bench;
+mod clusters;
+mod edits;
+mod input;
+mod lines;
+mod links;
+mod members;
+mod pairs;
+mod say;
+mod states;
+mod windows;
+mod words;
+
+fn main() {
+    let mut space = io::large_buffer();
+    let n = io::read_full(0, &mut space);
+    lines::run_all(&space[..n]);
+}
