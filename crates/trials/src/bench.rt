@@ -20,9 +20,17 @@ pub struct Bench {
     pub holdings: Holdings,
 }
 
+pub(crate) fn no_numbers() -> [u64; 100] {
+    [0; 100]
+}
+
+fn no_shares() -> [u32; 100] {
+    [0; 100]
+}
+
 // u, r and the shares.
 pub(crate) fn side_from(args: &[u64; 100], n: usize) -> Side {
-    let mut shares = [0u32; 100];
+    let mut shares = no_shares();
     input::copy_shares(args, 3, &mut shares);
     Side {
         members: input::less(n, 2),
@@ -34,7 +42,8 @@ pub(crate) fn side_from(args: &[u64; 100], n: usize) -> Side {
 
 // Nothing set yet: no members, and a window that was refused.
 pub(crate) fn empty() -> Bench {
-    let none = side_from(&[0; 100], 0);
+    let args = no_numbers();
+    let none = side_from(&args, 0);
     let a = Window::open(&[], 0, 0, &[], 0, 0, 0);
     let window = a.window;
     let fresh = holdings::fresh();

@@ -21,11 +21,9 @@ ghost use lib.ListN.{length};
 fn plain_case(word: usize, args: &[u64; 100], n: usize) {
     if word == words::CLUSTER {
         clusters::cluster(args, n);
-    }
-    if word == words::READ {
+    } else if word == words::READ {
         links::read(args, n);
-    }
-    if word == words::WRITE {
+    } else if word == words::WRITE {
         links::write(args);
     }
 }
@@ -34,81 +32,74 @@ fn plain_case(word: usize, args: &[u64; 100], n: usize) {
 fn pair_case(s: Side, t: Side, word: usize, args: &[u64; 100]) {
     if word == words::COUNTS {
         clusters::counts(s, args);
-    }
-    if word == words::FIRST {
+    } else if word == words::FIRST {
         pairs::first(s, t, args);
-    }
-    if word == words::RESEND {
+    } else if word == words::RESEND {
         pairs::resend(s, t, args);
     }
 }
 
-fn show_case(b: Bench, word: usize) {
+fn show_case(w: Window, h: Holdings, word: usize) {
     if word == words::SHOW {
-        states::show(b.window);
-    }
-    if word == words::FORMED {
-        windows::formed(b.window);
-    }
-    if word == words::TELL {
-        members::tell(b.holdings);
+        states::show(w);
+    } else if word == words::FORMED {
+        windows::formed(w);
+    } else if word == words::TELL {
+        members::tell(h);
     }
 }
 
 // The receiving member after the line.
 fn holdings_after(h: Holdings, word: usize, args: &[u64; 100]) -> Holdings {
     if word == words::ARRIVE {
-        return members::arrive(h, args[1]);
+        members::arrive(h, args[1])
+    } else if word == words::HOLD {
+        members::hold(args)
+    } else if word == words::FRESH {
+        holdings::fresh()
+    } else {
+        h
     }
-    if word == words::HOLD {
-        return members::hold(args);
-    }
-    if word == words::FRESH {
-        return holdings::fresh();
-    }
-    h
 }
 
 // The window after the line.
-fn window_after(b: Bench, word: usize, args: &[u64; 100]) -> Window {
-    if word == words::OPEN {
-        return pairs::open(b.sending, b.receiving, input::short(args[1]));
-    }
+fn window_after(w: Window, kept: Window, word: usize, args: &[u64; 100]) -> Window {
     if word == words::SEND {
-        return windows::send(b.window, args[1]);
+        windows::send(w, args[1])
+    } else if word == words::REPORT {
+        windows::report(w, args)
+    } else if word == words::BACK {
+        kept
+    } else {
+        edits::put(w, word, args)
     }
-    if word == words::REPORT {
-        return windows::report(b.window, args);
+}
+
+fn opened_after(b: Bench, word: usize, args: &[u64; 100]) -> Window {
+    if word == words::OPEN {
+        pairs::open(b.sending, b.receiving, input::short(args[1]))
+    } else {
+        window_after(b.window, b.kept, word, args)
     }
-    if word == words::BACK {
-        return b.kept;
-    }
-    edits::put(b.window, word, args)
 }
 
 fn side_after(s: Side, is_new: bool, args: &[u64; 100], n: usize) -> Side {
-    if is_new {
-        return bench::side_from(args, n);
-    }
-    s
+    if is_new { bench::side_from(args, n) } else { s }
 }
 
-fn kept_after(b: Bench, word: usize) -> Window {
-    if word == words::KEEP {
-        return b.window;
-    }
-    b.kept
+fn kept_after(w: Window, kept: Window, word: usize) -> Window {
+    if word == words::KEEP { w } else { kept }
 }
 
 // The bench after the line, whose answer is written.
 fn bench_after(b: Bench, word: usize, args: &[u64; 100], n: usize) -> Bench {
     plain_case(word, args, n);
     pair_case(b.sending, b.receiving, word, args);
-    show_case(b, word);
+    show_case(b.window, b.holdings, word);
     let sending = side_after(b.sending, word == words::SENDING, args, n);
     let receiving = side_after(b.receiving, word == words::RECEIVING, args, n);
-    let window = window_after(b, word, args);
-    let kept = kept_after(b, word);
+    let window = opened_after(b, word, args);
+    let kept = kept_after(b.window, b.kept, word);
     let held = holdings_after(b.holdings, word, args);
     Bench {
         sending,
@@ -120,7 +111,7 @@ fn bench_after(b: Bench, word: usize, args: &[u64; 100], n: usize) -> Bench {
 }
 
 fn run_line(b: Bench, line: &[u8]) -> Bench {
-    let mut args = [0u64; 100];
+    let mut args = bench::no_numbers();
     let n = input::numbers(line, &mut args);
     say::text(line);
     let next = bench_after(b, words::word_of(line), &args, n);

@@ -1,5 +1,4 @@
-// A window's state: whether two are the same, all that one holds, and one with a field changed.
-use crate::input;
+// A window's state: whether two are the same, and all that one holds.
 use crate::say;
 use window::Cluster;
 use window::Downstream;

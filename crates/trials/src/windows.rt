@@ -25,7 +25,7 @@ pub(crate) fn send(w: Window, k: u64) -> Window {
     next
 }
 
-// How many of the first n bytes of an output come before those at its end that are 7 still.
+// How many bytes of an output come before those at its end that are 7 still. A verdict ends in zeros, so none is missed.
 fn written(out: &[u8]) -> usize
     ensures { λ r. ⌜ Counts r (now (out .entry)) ⌝ }
 {
