@@ -1,10 +1,10 @@
 // A window's state with one field changed, well formed or not.
 use crate::input;
 use crate::words;
-use window::Cluster;
-use window::Downstream;
-use window::Entry;
-use window::Report;
+use downstream::Cluster;
+use downstream::Downstream;
+use downstream::Entry;
+use downstream::Report;
 use window::Window;
 
 // members u r

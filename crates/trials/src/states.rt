@@ -1,9 +1,9 @@
 // A window's state: whether two are the same, and all that one holds.
 use crate::say;
-use window::Cluster;
-use window::Downstream;
-use window::Entry;
-use window::Report;
+use downstream::Cluster;
+use downstream::Downstream;
+use downstream::Entry;
+use downstream::Report;
 use window::Window;
 
 fn same_shares(a: [u32; 64], b: [u32; 64]) -> bool {

@@ -1,19 +1,10 @@
 -- The laws of the window, for this crate's proofs and those above it. Assumes nothing.
-pub mod ColumnLaws
 pub mod FormedLaws
-pub mod SendLaws
-pub mod PlaceLaws
-pub mod ComplaintLaws
-pub mod JudgeLaws
-pub mod StepLaws
-pub mod Accepted
-pub mod HeardLaws
-pub mod Kept
-pub mod SendKept
-pub mod Meaning
-pub mod WriteLaws
-pub mod ReportLaws
 pub mod OpenLaws
 pub mod OpenKept
+pub mod SendLaws
+pub mod SendKept
+pub mod RefusalLaws
+pub mod ReportLaws
 pub mod Season
 pub mod Unique

@@ -17,13 +17,14 @@ use Rattle.shares.proofs.ClusterLaws as clusters
 use Rattle.shares.proofs.PointLaws.{point-le}
 use Rattle.deal.specs.Pairs.{pairRefusal}
 use Rattle.deal.proofs.JudgeLaws.{pair-quantum, sending-accepted, receiving-accepted}
-use Rattle.window.specs.declared.state.Cluster.{Cluster}
-use Rattle.window.specs.declared.state.Report.{Report}
-use Rattle.window.specs.State.{noReport, noEntry, sharesOf, placeAfter, reportAt, numbersOf, masksOf, pointFrom}
-use Rattle.window.specs.Formed.{placesZero, clusterKept, spanKept, reportKept, reportsKept, entryKept, entriesKept, downstreamKept, wellFormed}
+use Rattle.downstream.specs.declared.state.Cluster.{Cluster}
+use Rattle.downstream.specs.declared.state.Report.{Report}
+use Rattle.downstream.specs.State.{noReport, noEntry, sharesOf, placeAfter, reportAt, numbersOf, masksOf, pointFrom}
+use Rattle.downstream.specs.Formed.{placesZero, clusterKept, reportKept, reportsKept, entryKept, entriesKept, downstreamKept}
+use Rattle.window.specs.Formed.{wellFormed}
 use Rattle.window.specs.Opening.{clusterFrom, downstreamFrom, windowFrom, openOf}
-use Rattle.window.proofs.ColumnLaws.{number-at}
-use Rattle.window.proofs.FormedLaws.{span-of}
+use Rattle.downstream.proofs.ColumnLaws.{number-at}
+use Rattle.downstream.proofs.FormedLaws.{span-of}
 
 -- the members' shares are the lent ones
 shares-back : (s : List ℕ) (u r : ℕ) → sharesOf (clusterFrom s u r) ≡ s

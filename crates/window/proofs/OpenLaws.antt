@@ -13,10 +13,10 @@ use Rattle.basics.specs.Sums.{listBelow}
 use Rattle.basics.proofs.SumLaws.{list-is}
 use Rattle.deal.specs.Pairs.{pairRefusal}
 use Rattle.deal.proofs.JudgeLaws.{sending-accepted, receiving-accepted}
-use Rattle.window.specs.declared.state.Cluster.{Cluster}
+use Rattle.downstream.specs.declared.state.Cluster.{Cluster}
 use Rattle.window.specs.declared.state.Window.{Window}
 use Rattle.window.specs.declared.opening.OpenAnswer.{OpenAnswer}
-use Rattle.window.proofs.ColumnLaws.{column-turn}
+use Rattle.downstream.proofs.ColumnLaws.{column-turn}
 use Rattle.window.specs.Opening.{clusterFrom, windowFrom, noWindow, openOf}
 
 as-many : (a : ℕ) {m n : ℕ} → m ≡ n → replicate m a ≡ replicate n a

@@ -12,21 +12,23 @@ use Rattle.shares.proofs.ClusterLaws as clusters
 use Rattle.deal.proofs.JudgeLaws.{dealable}
 use Rattle.circle.specs.Positions.{Sized}
 use Rattle.circle.proofs.CircleLaws.{sized}
-use Rattle.window.specs.declared.state.Cluster.{Cluster}
-use Rattle.window.specs.declared.state.Downstream.{Downstream}
+use Rattle.downstream.specs.declared.state.Cluster.{Cluster}
+use Rattle.downstream.specs.declared.state.Downstream.{Downstream}
 use Rattle.window.specs.declared.state.Window.{Window}
 use Rattle.window.specs.declared.reporting.ReportAnswer.{ReportAnswer}
 use Rattle.window.specs.declared.reporting.Step.{Step}
-use Rattle.window.specs.State.{sharesOf}
-use Rattle.window.specs.Formed.{clusterKept}
-use Rattle.window.specs.Complaints.{takenOf, Taking}
-use Rattle.window.specs.Verdicts.{dueOf, judgedOf, Judging}
-use Rattle.window.specs.Written.{verdictsOf, verdictCount, Writing}
+use Rattle.downstream.specs.State.{sharesOf}
+use Rattle.downstream.specs.Formed.{clusterKept}
+use Rattle.downstream.specs.Complaints.{takenOf, Taking}
+use Rattle.downstream.specs.Verdicts.{dueOf, judgedOf, Judging}
+use Rattle.verdicts.specs.Written.{verdictsOf, verdictCount, Writing}
 use Rattle.window.specs.Reporting.{reportRefusal, Reportable}
 use Rattle.window.specs.Answers.{stepOf, stepOut, withDownstream, reportOf, reportOut}
-use Rattle.window.proofs.FormedLaws.{formed-down, formed-sending, formed-quantum, kept-cluster, cluster-few, cluster-accepted}
-use Rattle.window.proofs.Accepted.{accepts, may-take}
-use Rattle.window.proofs.Kept.{may-judge}
+use Rattle.downstream.proofs.FormedLaws.{kept-cluster, cluster-few, cluster-accepted}
+use Rattle.downstream.proofs.Accepted.{may-take}
+use Rattle.downstream.proofs.Kept.{may-judge}
+use Rattle.window.proofs.FormedLaws.{formed-sending, formed-quantum}
+use Rattle.window.proofs.RefusalLaws.{accepts}
 
 -- a kept cluster is an accepted one
 pub kept-accepted : (c : Cluster) → clusterKept c ≡ true → Accepted (sharesOf c) (c .u) (c .r)
@@ -41,11 +43,11 @@ module _ (sending : Cluster) (q s : ℕ) (before : Downstream) (i c mask room : 
   step-room = a .enough
 
   pub step-taking : length (before .reports) ≡ 64 → Taking before s i c mask
-  step-taking places = may-take w i c mask room a places
+  step-taking places = may-take before s i c mask (a .accepting) places
 
   module _ (d : Downstream) (ed : d ≡ takenOf before s i c mask) where
     pub step-judging : length (before .reports) ≡ 64 → Judging d s
-    step-judging places = rw ed (may-judge w i c mask room a places)
+    step-judging places = rw ed (may-judge before s i c mask (a .accepting) places)
 
     same-cluster : d .cluster ≡ before .cluster
     unfolding takenOf
@@ -54,7 +56,7 @@ module _ (sending : Cluster) (q s : ℕ) (before : Downstream) (i c mask room : 
     pub step-writing : length (before .reports) ≡ 64 → (lost : ℕ) → lost ≡ dueOf d s → Writing sending q d s lost
     step-writing places lost el =
         let x = kept-accepted sending (formed-sending w (a .formed)) in
-        let y = kept-accepted (before .cluster) (kept-cluster before s (formed-down w (a .formed))) in
+        let y = kept-accepted (before .cluster) (kept-cluster before s (a .accepting .kept)) in
         record {
           judging = step-judging places;
           few = cluster-few sending (formed-sending w (a .formed));

@@ -12,17 +12,18 @@ use lib.ListN.{length, length-set}
 use borrow.Author.Tests.{eq-eqb, ne-eqb}
 use Rattle.deal.specs.Pairs.{pairRefusal}
 use Rattle.window.specs.declared.state.Window.{Window}
-use Rattle.window.specs.Formed.{downstreamKept, wellFormed}
+use Rattle.window.specs.Formed.{wellFormed}
 use Rattle.window.specs.Opening.{openOf}
 use Rattle.window.specs.Sending.{sendRefusal, sendOf}
-use Rattle.window.specs.Complaints.{takenOf}
-use Rattle.window.specs.Verdicts.{judgedOf}
+use Rattle.downstream.specs.Complaints.{takenOf}
+use Rattle.downstream.specs.Verdicts.{judgedOf}
 use Rattle.window.specs.Reporting.{reportRefusal}
 use Rattle.window.specs.Answers.{stepOf, withDownstream, reportOf}
 use Rattle.window.specs.Season.{Call, sends, reports, Answer, answerOf, nextOf, afterAll}
 use Rattle.window.proofs.FormedLaws.{formed-sending, formed-quantum}
-use Rattle.window.proofs.Accepted.{accepts, point-up}
-use Rattle.window.proofs.Kept.{judged-formed}
+use Rattle.downstream.proofs.Accepted.{point-up}
+use Rattle.downstream.proofs.Kept.{judged-formed}
+use Rattle.window.proofs.RefusalLaws.{accepts}
 use Rattle.window.proofs.SendKept.{send-kept, refused-send}
 use Rattle.window.proofs.OpenKept.{open-kept, open-places}
 
@@ -48,7 +49,7 @@ module _ (w : Window) (i c mask room : ℕ) where
     -- an accepted report keeps the state well formed
     pub report-formed : wellFormed (reportOf w i c mask room .window) ≡ true
     unfolding wellFormed
-    report-formed = rw taken-on (simp (formed-sending w (s .formed), formed-quantum w (s .formed), judged-formed w i c mask room (accepts w i c mask room e) (s .places)))
+    report-formed = rw taken-on (simp (formed-sending w (s .formed), formed-quantum w (s .formed), judged-formed (w .downstream) (w .sent) i c mask (accepts w i c mask room e .accepting) (s .places)))
 
     pub report-places : length (reportOf w i c mask room .window .downstream .reports) ≡ 64
     unfolding judgedOf takenOf
@@ -56,7 +57,7 @@ module _ (w : Window) (i c mask room : ℕ) where
 
     pub report-point : w .downstream .point ≤ reportOf w i c mask room .window .downstream .point
     unfolding judgedOf takenOf
-    report-point = rw taken-on (point-up w i c mask room (accepts w i c mask room e) (s .places))
+    report-point = rw taken-on (point-up (w .downstream) (w .sent) i c mask (accepts w i c mask room e .accepting) (s .places))
 
 -- ---- any call
 send-same-down : (w : Window) (k : ℕ) → sendOf w k .window .downstream ≡ w .downstream

@@ -11,7 +11,8 @@ use Rattle.window.specs.declared.state.Window.{Window}
 use Rattle.window.specs.declared.sending.SendAnswer.{SendAnswer}
 use Rattle.window.specs.Formed.{wellFormed}
 use Rattle.window.specs.Sending.{sendRefusal, sendOf, withSent}
-use Rattle.window.proofs.FormedLaws.{formed-down, kept-span, span-limit, span-order}
+use Rattle.downstream.proofs.FormedLaws.{kept-span, span-limit, span-order}
+use Rattle.window.proofs.FormedLaws.{formed-down}
 
 -- S and p of a well formed state leave room above them
 module _ (w : Window) (b : Bool) (e : b ≡ wellFormed w) (t : b ≡ true) where
@@ -24,8 +25,8 @@ module _ (w : Window) (b : Bool) (e : b ≡ wellFormed w) (t : b ≡ true) where
   pub sent-room : Fits w64 (w .sent + 1)
   sent-room = record { fits = omega (arith, small) }
 
-  pub point-room : Fits w64 (w .downstream .point + 64)
-  point-room = record { fits = omega (arith, small, span-order (w .downstream .point) (w .sent) (kept-span (w .downstream) (w .sent) (formed-down w formed))) }
+  pub point-room : (n : ℕ) → n ≤ 1000000000000 → Fits w64 (w .downstream .point + n)
+  point-room n l = record { fits = omega (arith, small, span-order (w .downstream .point) (w .sent) (kept-span (w .downstream) (w .sent) (formed-down w formed))) }
 
 pub ruleset sending = (checks, sent-room, point-room)
 

@@ -4,14 +4,14 @@ use mathlib.Core.List.{List, _++_}
 use Prim.Native.Nat.{ℕ}
 use lib.Dec.{eqb}
 use lib.ListN.{length, drop}
-use Rattle.window.specs.declared.state.Cluster.{Cluster}
-use Rattle.window.specs.declared.state.Downstream.{Downstream}
+use Rattle.downstream.specs.declared.state.Cluster.{Cluster}
+use Rattle.downstream.specs.declared.state.Downstream.{Downstream}
 use Rattle.window.specs.declared.state.Window.{Window}
 use Rattle.window.specs.declared.reporting.ReportAnswer.{ReportAnswer}
 use Rattle.window.specs.declared.reporting.Step.{Step}
-use Rattle.window.specs.Complaints.{takenOf}
-use Rattle.window.specs.Verdicts.{judgedOf}
-use Rattle.window.specs.Written.{verdictsOf, verdictCount}
+use Rattle.downstream.specs.Complaints.{takenOf}
+use Rattle.downstream.specs.Verdicts.{judgedOf}
+use Rattle.verdicts.specs.Written.{verdictsOf, verdictCount}
 use Rattle.window.specs.Reporting.{reportRefusal}
 
 -- Steps of an accepted report: store it; work out p and empty collected entries; hear the complaints; then the verdicts

@@ -15,17 +15,19 @@ use Rattle.shares.specs.Cluster.{clusterRefusal}
 use Rattle.shares.specs.Examples.{E}
 use Rattle.deal.specs.Pairs.{pairRefusal}
 use Rattle.resend.specs.Examples.{wholeResend}
-use Rattle.window.specs.declared.state.Report.{Report}
-use Rattle.window.specs.declared.state.Entry.{Entry}
+use Rattle.downstream.specs.declared.state.Report.{Report}
+use Rattle.downstream.specs.declared.state.Entry.{Entry}
 use Rattle.window.specs.declared.state.Window.{Window}
-use Rattle.window.specs.State.{noReport, noEntry, numbersOf, masksOf, pointFrom, isQuacked}
-use Rattle.window.specs.Formed.{placesZero, clusterKept, spanKept, reportsKept, complaintsKept, entriesKept, downstreamKept, wellFormed}
+use Rattle.downstream.specs.State.{noReport, noEntry, numbersOf, masksOf, pointFrom, isQuacked}
+use Rattle.downstream.specs.Formed.{placesZero, clusterKept, spanKept, reportsKept, complaintsKept, entriesKept, downstreamKept}
+use Rattle.downstream.specs.Reports.{keepsAll}
+use Rattle.window.specs.Formed.{wellFormed}
 use Rattle.window.specs.Opening.{clusterFrom, noWindow, openOf}
 use Rattle.window.specs.Sending.{sendRefusal, sendOf}
-use Rattle.window.specs.Complaints.{entriesAfter, complains, complaintsAfter, takenOf}
-use Rattle.window.specs.Verdicts.{isDue, dueOf, judgedOf}
-use Rattle.window.specs.Written.{verdictBytes, verdictOf, verdictsTo, verdictsOf, verdictCount}
-use Rattle.window.specs.Reporting.{keepsAll, reportRefusal}
+use Rattle.downstream.specs.Complaints.{entriesAfter, complains, complaintsAfter, takenOf}
+use Rattle.downstream.specs.Verdicts.{isDue, dueOf, judgedOf}
+use Rattle.verdicts.specs.Written.{verdictBytes, verdictOf, verdictsTo, verdictsOf, verdictCount}
+use Rattle.window.specs.Reporting.{reportRefusal}
 use Rattle.window.specs.Answers.{stepOf, stepOut, reportOf, reportOut}
 use Rattle.window.specs.Season.{Call, sends, reports, Answer, answerOf, nextOf, afterAll, answersOf}
 

@@ -6,10 +6,10 @@ use lib.Dec.{eqb}
 use lib.ListN.{length, replicate}
 use Rattle.deal.specs.Pairs.{pairRefusal}
 use Rattle.window.specs.declared.opening.OpenAnswer.{OpenAnswer}
-use Rattle.window.specs.declared.state.Cluster.{Cluster}
-use Rattle.window.specs.declared.state.Downstream.{Downstream}
+use Rattle.downstream.specs.declared.state.Cluster.{Cluster}
+use Rattle.downstream.specs.declared.state.Downstream.{Downstream}
 use Rattle.window.specs.declared.state.Window.{Window}
-use Rattle.window.specs.State.{noReport, noEntry}
+use Rattle.downstream.specs.State.{noReport, noEntry}
 
 -- the lent list of shares, share places past the cluster's end being zero
 abbrev pub clusterFrom : List ℕ → ℕ → ℕ → Cluster

@@ -1,21 +1,16 @@
 -- A report from member i: which refusal it gets. Assumes nothing.
 use mathlib.Core.Path.{_≡_}
-use mathlib.Core.Bool.{Bool, true, false, not, _&&_, _||_}
-use mathlib.Core.List.{List, [], _∷_}
-use Prim.Native.Nat.{ℕ, _+_, _≤_, _<_}
+use mathlib.Core.Bool.{true, not}
+use mathlib.Core.List.{[], _∷_}
+use Prim.Native.Nat.{ℕ, _≤_}
 use lib.Dec.{leb, ltb}
-use Rattle.basics.specs.Sums.{allBelow}
 use Rattle.basics.specs.Checks.{_else_, firstFailing}
 use Rattle.marks.specs.Masks.{isMarked}
-use Rattle.marks.specs.Held.{holdsOf, noneAbove}
-use Rattle.window.specs.declared.state.Report.{Report}
+use Rattle.marks.specs.Held.{noneAbove}
+use Rattle.downstream.specs.State.{reportAt}
+use Rattle.downstream.specs.Reports.{keepsAll, Accepting}
 use Rattle.window.specs.declared.state.Window.{Window}
-use Rattle.window.specs.State.{reportAt}
 use Rattle.window.specs.Formed.{wellFormed}
-
--- the report (c, mask) lacks no message that the member's former report held: its numbers up to c, and each that it marked
-unfoldable pub keepsAll : Report → ℕ → ℕ → Bool
-keepsAll former c mask = leb (former .number) c && allBelow 64 (λ b. not (isMarked (former .mask) b) || holdsOf c mask (former .number + 1 + b))
 
 -- Report: 17, 5, 8, 12, 11, 13
 unfoldable pub reportRefusal : Window → ℕ → ℕ → ℕ → ℕ → ℕ
@@ -29,11 +24,8 @@ reportRefusal w i c mask room =
     ∷ (keepsAll (reportAt (w .downstream .reports) i) c mask else 13)
     ∷ [])
 
--- what is known of an accepted report
+-- what is known where a report is accepted
 pub record Reportable (w : Window) (i c mask room : ℕ) : Type 0 where
   pub formed : wellFormed w ≡ true
   pub enough : 1_024 ≤ room
-  pub member : i < w .downstream .cluster .members
-  pub clear : isMarked mask 0 ≡ false
-  pub none-above : noneAbove c mask (w .sent) ≡ true
-  pub keeps : keepsAll (reportAt (w .downstream .reports) i) c mask ≡ true
+  pub accepting : Accepting (w .downstream) (w .sent) i c mask

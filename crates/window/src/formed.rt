@@ -1,163 +1,16 @@
-// Whether a state is well formed: every clause, for any values, in an order in which no sum can wrap.
-use crate::columns::lacking;
-use crate::columns::masks_of;
-use crate::columns::numbers_of;
-use crate::state::Cluster;
-use crate::state::Downstream;
-use crate::state::Entry;
-use crate::state::Report;
+// Whether a state is well formed, for any values.
 use crate::state::Window;
 ghost use mathlib.Core.Path.{_≡_};
-ghost use mathlib.Core.Bool.{true};
-ghost use Prim.Native.Nat.{_≤_};
-ghost use Rattle.window.specs.State.{pointFrom};
-ghost use Rattle.window.specs.Formed.{placesZero, clusterKept, spanKept, reportKept, reportsKept, complaintsKept, entryKept, entriesKept, downstreamKept, wellFormed};
-
-// Share places past the cluster's end are zero.
-fn places_zero(c: Cluster) -> bool
-    ensures { λ r. ⌜ r ≡ placesZero c ⌝ }
-{
-    let shares = c.shares;
-    let n = c.members as usize;
-    let mut zero = true;
-    let mut i: usize = 0;
-    while i < 64 {
-        zero = zero & ((i < n) | (shares[i] == 0));
-        i += 1;
-    }
-    zero
-}
-
-pub fn cluster_kept(c: Cluster) -> bool
-    ensures { λ r. ⌜ r ≡ clusterKept c ⌝ }
-{
-    let n = c.members as usize;
-    if 64 < n {
-        return false;
-    }
-    let shares = c.shares;
-    let refusal = shares::cluster_refusal(&shares[..n], c.u, c.r);
-    let zero = places_zero(c);
-    (refusal == 0) & zero
-}
-
-fn span_kept(p: u64, s: u64) -> bool
-    ensures { λ r. ⌜ r ≡ spanKept p s ⌝ }
-{
-    if 1_000_000_000_000 < s {
-        return false;
-    }
-    if s < p {
-        return false;
-    }
-    s <= p + 64
-}
-
-fn report_kept(members: u32, s: u64, i: usize, rep: Report) -> bool
-    ensures { λ r. ⌜ r ≡ reportKept members s i rep ⌝ }
-{
-    let first = marks::is_marked(rep.mask, 0);
-    let none = marks::none_above(rep.number, rep.mask, s);
-    if rep.heard {
-        (i < members as usize) & !first & none
-    } else {
-        (rep.number == 0) & (rep.mask == 0)
-    }
-}
-
-fn reports_kept(members: u32, reports: [Report; 64], s: u64) -> bool
-    ensures { λ r. ⌜ r ≡ reportsKept members reports s ⌝ }
-{
-    let mut kept = true;
-    let mut i: usize = 0;
-    while i < 64 {
-        kept = kept & report_kept(members, s, i, reports[i]);
-        i += 1;
-    }
-    kept
-}
-
-fn complaints_kept(n: usize, numbers: &[u64; 64], masks: &[u64; 64], k: u64, bits: u64) -> bool
-    requires { ⌜ n ≤ 64 ⌝ }
-    ensures { λ r. ⌜ r ≡ complaintsKept n (now (numbers .entry)) (now (masks .entry)) k bits ⌝ }
-{
-    marks::is_subset(bits, lacking(numbers, masks, n, k))
-}
-
-fn entry_kept(n: usize, numbers: &[u64; 64], masks: &[u64; 64], s: u64, k: u64, e: Entry) -> bool
-    requires { ⌜ n ≤ 64 ⌝ }
-    ensures { λ r. ⌜ r ≡ entryKept n (now (numbers .entry)) (now (masks .entry)) s k e ⌝ }
-{
-    if k <= s {
-        let named = complaints_kept(n, numbers, masks, k, e.complaints);
-        (e.count <= 255) & named
-    } else {
-        (e.count == 0) & (e.complaints == 0)
-    }
-}
-
-fn entries_kept(
-    n: usize,
-    numbers: &[u64; 64],
-    masks: &[u64; 64],
-    entries: [Entry; 64],
-    p: u64,
-    s: u64,
-) -> bool
-    requires { ⌜ (n ≤ 64) × (p ≤ 1000000000000) ⌝ }
-    ensures { λ r. ⌜ r ≡ entriesKept n (now (numbers .entry)) (now (masks .entry)) entries p s ⌝ }
-{
-    let mut kept = true;
-    let mut o: u64 = 0;
-    while o < 64 {
-        let at = ((p + o) % 64) as usize;
-        kept = kept & entry_kept(n, numbers, masks, s, p + 1 + o, entries[at]);
-        o += 1;
-    }
-    kept
-}
-
-// The point that the members' numbers give.
-// inner: for a cluster whose members have places.
-pub fn point_from(c: Cluster, numbers: [u64; 64]) -> u64
-    requires { ⌜ c .members ≤ 64 ⌝ }
-    ensures { λ r. ⌜ r ≡ pointFrom c numbers ⌝ }
-{
-    let n = c.members as usize;
-    let shares = c.shares;
-    shares::point(&shares[..n], &numbers, c.u as u64 + 1)
-}
-
-pub fn downstream_kept(d: Downstream, s: u64) -> bool
-    ensures { λ r. ⌜ r ≡ downstreamKept d s ⌝ }
-{
-    let p = d.point;
-    if !span_kept(p, s) {
-        return false;
-    }
-    let cluster = d.cluster;
-    if !cluster_kept(cluster) {
-        return false;
-    }
-    let n = cluster.members as usize;
-    let reports = d.reports;
-    let entries = d.entries;
-    let numbers = numbers_of(reports);
-    let masks = masks_of(reports);
-    let told = reports_kept(cluster.members, reports, s);
-    let point = point_from(cluster, numbers);
-    let open = entries_kept(n, &numbers, &masks, entries, p, s);
-    told & (p == point) & open
-}
+ghost use Rattle.window.specs.Formed.{wellFormed};
 
 impl Window {
     // Whether the state is well formed.
     pub fn well_formed(self) -> bool
         ensures { λ r. ⌜ r ≡ wellFormed self ⌝ }
     {
-        let sending = cluster_kept(self.sending);
+        let sending = downstream::cluster_kept(self.sending);
         let quantum = basics::is_quantum(self.quantum);
-        let downstream = downstream_kept(self.downstream, self.sent);
+        let downstream = downstream::downstream_kept(self.downstream, self.sent);
         sending & quantum & downstream
     }
 }

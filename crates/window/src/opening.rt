@@ -1,9 +1,9 @@
 // Opening a window.
-use crate::state::Cluster;
-use crate::state::Downstream;
-use crate::state::Entry;
-use crate::state::Report;
 use crate::state::Window;
+use downstream::Cluster;
+use downstream::Downstream;
+use downstream::Entry;
+use downstream::Report;
 ghost use mathlib.Core.Path.{_≡_};
 ghost use mathlib.Core.List.{_++_};
 ghost use Prim.Native.Nat.{_-_, _≤_};

@@ -1,15 +1,10 @@
 // Reports.
-use crate::complaints::taken;
-use crate::judging::due;
-use crate::judging::judged;
-use crate::judging::report_refusal;
-use crate::state::Cluster;
-use crate::state::Downstream;
 use crate::state::Window;
-use crate::verdicts::write_verdicts;
+use downstream::Cluster;
+use downstream::Downstream;
 ghost use mathlib.Core.Path.{_≡_};
 ghost use lib.ListN.{length};
-ghost use Rattle.window.specs.Reporting.{Reportable};
+ghost use Rattle.window.specs.Reporting.{reportRefusal, Reportable};
 ghost use Rattle.window.specs.Answers.{stepOf, stepOut, reportOf, reportOut};
 
 // The number of the refusal, 0 for none, how many verdicts were written, and the next state.
@@ -17,6 +12,34 @@ pub struct ReportAnswer {
     pub refusal: u32,
     pub verdicts: u32,
     pub window: Window,
+}
+
+// The refusal that a report gets: 17, 5, 8, 12, 11, 13 in this order, 0 for none.
+fn report_refusal(w: Window, i: u32, c: u64, mask: u64, room: usize) -> u32
+    ensures { λ r. ⌜ r ≡ reportRefusal w i c mask room ⌝ }
+{
+    if !w.well_formed() {
+        return 17;
+    }
+    if room < 1_024 {
+        return 5;
+    }
+    let members = w.downstream.cluster.members;
+    if members <= i {
+        return 8;
+    }
+    if marks::is_marked(mask, 0) {
+        return 12;
+    }
+    if !marks::none_above(c, mask, w.sent) {
+        return 11;
+    }
+    let at = i as usize;
+    let reports = w.downstream.reports;
+    if !downstream::keeps_all(reports[at], c, mask) {
+        return 13;
+    }
+    0
 }
 
 // What an accepted report does to all that belongs to the receiving cluster.
@@ -39,13 +62,13 @@ fn step_of(
     requires { ⌜ Reportable (record { sending = sending; quantum = quantum; sent = sent; downstream = before }) member number mask (length (now out)) ⌝ }
     ensures { λ r. ⌜ (r ≡ stepOf before sent member number mask) × (now (out .exit) ≡ stepOut sending quantum before sent member number mask (now (out .entry))) ⌝ }
 {
-    let d = taken(before, sent, member, number, mask);
-    let lost = due(d, sent);
-    let verdicts = write_verdicts(sending, quantum, d, sent, lost, out);
-    let downstream = judged(d, sent, lost);
+    let d = downstream::taken(before, sent, member, number, mask);
+    let lost = downstream::due(d, sent);
+    let verdicts = verdicts::write_verdicts(sending, quantum, d, sent, lost, out);
+    let next = downstream::judged(d, sent, lost);
     Step {
         verdicts,
-        downstream,
+        downstream: next,
     }
 }
 

@@ -2,7 +2,7 @@
 use Rattle.window.proofs.ReportLaws.{step-room, step-taking, step-judging, step-writing, step-told, step-out}
 use lib.ListN.{length}
 use mathlib.Core.Path.{_≡_}
-use Rattle.window.proofs.ColumnLaws.{places-known}
+use Rattle.downstream.proofs.ColumnLaws.{places-known}
 use borrow.Author.Needs.{needs}
 use Rattle.window.proofs.reporting.step_of.Statement.{statement}
 use Rattle.window.proofs.reporting.step_of.Tie as tie

@@ -27,7 +27,7 @@ unfolding sendRefusal
 returns-3 c = search sending
 
 add-if4 : tie.Need-add-if4
-add-if4 c = search sending
+add-if4 c = search (sending, needs)
 
 returns-4 : tie.Need-returns-4
 unfolding sendRefusal

@@ -1,0 +1,50 @@
+-- Columns of the reports, and the members that lack a message. Assumes nothing.
+use mathlib.Core.Path.{_≡_, refl, ap, sym, _∙_}
+use mathlib.Core.Bool.{Bool, true, false, cond, not, _&&_, _||_}
+use mathlib.Core.List.{List, _++_, append-nil, map}
+use Prim.Native.Nat.{ℕ, _+_, _≤_, _<_}
+use native.Mathlib.Omega.{arith}
+use lib.Dec.{ltb}
+use lib.ListN.{length, getD, drop, set, replicate, drop-of-length-le, length-replicate, length-map}
+use Rattle.basics.specs.Sums.{allBelow, listBelow}
+use Rattle.basics.proofs.SumLaws.{list-at, list-turn}
+use Rattle.marks.specs.Masks.{markOf, isMarked, isSubset}
+use Rattle.marks.specs.Held.{holdsOf}
+use Rattle.marks.proofs.SetLaws.{marked-set}
+use Rattle.downstream.specs.declared.state.Report.{Report}
+use Rattle.downstream.specs.State.{reportAt, numbersOf, masksOf, heldBy, lackingOf}
+use Rattle.downstream.specs.Formed.{complaintsKept}
+
+-- what owning an array tells of its list: it has so many places
+pub places-known : {A B : Type 0} (f : A → B) (l : List A) (n : ℕ) → length (map f l) ≡ n → length l ≡ n
+places-known f l n e = sym (length-map l f) ∙ e
+
+pub number-at : (reports : List Report) (i : ℕ) → i < 64 → getD (numbersOf reports) i 0 ≡ reportAt reports i .number
+unfolding numbersOf
+number-at reports i l = list-at (λ j. reportAt reports j .number) 0 64 i l
+
+pub mask-at : (reports : List Report) (i : ℕ) → i < 64 → getD (masksOf reports) i 0 ≡ reportAt reports i .mask
+unfolding masksOf
+mask-at reports i l = list-at (λ j. reportAt reports j .mask) 0 64 i l
+
+-- a column is filled from the front
+pub column-turn : (f : ℕ → ℕ) (i : ℕ) {v : ℕ} {l : List ℕ} → l ≡ listBelow i f ++ drop i (replicate 64 0) → i < 64 → length l ≡ 64 → v ≡ f i
+    → set l i v ≡ listBelow (i + 1) f ++ drop (i + 1) (replicate 64 0)
+column-turn f i {v} {l} e h n q = list-turn f {i = i} {v = v} {l = l} (replicate 64 0) e (omega arith) (n ∙ sym (length-replicate {A = ℕ} 64 0)) q
+
+pub column-done : (f : ℕ → ℕ) (i : ℕ) (l o : List ℕ) → l ≡ listBelow i f ++ drop i o → length o ≡ 64 → i ≤ 64 → 64 ≤ i → l ≡ listBelow 64 f
+column-done f i l o e n a b =
+    let z : i ≡ 64 = omega arith in
+    e ∙ ap (λ (t : List ℕ). listBelow i f ++ t) (drop-of-length-le o {i = i} (omega arith)) ∙ append-nil (listBelow i f) ∙ ap (λ (j : ℕ). listBelow j f) z
+
+-- ---- the set of those that lack
+module _ (number mask k t i : ℕ) {b : Bool} (e : b ≡ holdsOf number mask k) where
+  pub lacks-not : b ≡ true → t ≡ cond (not (holdsOf number mask k)) (markOf t i) t
+  lacks-not h = simp (sym e ∙ h)
+
+  pub lacks : (r : ℕ) → b ≡ false → r ≡ markOf t i → r ≡ cond (not (holdsOf number mask k)) (markOf t i) t
+  lacks r h q = simp (sym e ∙ h) q
+
+pub subset-lacking : (n : ℕ) (numbers masks : List ℕ) (k bits : ℕ) {l : ℕ} {b : Bool} → l ≡ lackingOf numbers masks n k → b ≡ isSubset bits l → b ≡ complaintsKept n numbers masks k bits
+unfolding isSubset lackingOf complaintsKept
+subset-lacking n numbers masks k bits {l} {b} e q = q ∙ rw e (simp (marked-set (λ i. not (heldBy numbers masks k i)) n))

@@ -1,0 +1,2 @@
+-- The laws of the verdicts' bytes, for this crate's proofs and those above it. Assumes nothing.
+pub mod WriteLaws

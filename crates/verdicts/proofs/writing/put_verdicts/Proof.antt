@@ -1,0 +1,81 @@
+-- The invariant: the verdicts on the first o messages stand in front, and everything behind them is as it was.
+use Prim.Native.Nat.{ℕ, _≤_, _-_, _*_}
+use mathlib.Core.Path.{_≡_, refl}
+use mathlib.Core.List.{_++_}
+use lib.ListN.{length, drop, getD}
+use Rattle.resend.specs.Resends.{Ready}
+use Rattle.downstream.specs.State.{noEntry}
+use Rattle.verdicts.specs.Written.{verdictsTo}
+use Rattle.verdicts.proofs.WriteLaws.{written-start, written-none, written-at, written-turn, written-bound, written-kept, written-done, written-length}
+use borrow.Author.Needs.{needs}
+use Rattle.verdicts.proofs.writing.put_verdicts.Statement.{statement}
+use Rattle.verdicts.proofs.writing.put_verdicts.Tie as tie
+
+abbrev Inv-loop : tie.InvT-loop
+Inv-loop out₀ due ss rs counts q p n entries at₀ o₀ out at o = (o ≤ n) × (n ≤ 64) × (p ≤ 1000000000000) × (1024 ≤ length out₀) × (length out ≡ length out₀) × (at ≤ 16 * o) × Ready ss rs counts q × ((j : ℕ) → getD entries j noEntry .count ≤ 255) × (at ≡ length (verdictsTo ss rs q due entries p o)) × (out ≡ verdictsTo ss rs q due entries p o ++ drop at out₀)
+
+abbrev μ-loop : tie.MeasureT-loop
+μ-loop out₀ due ss rs counts q p n entries at₀ o₀ out at o = n - o
+
+loop-holds : tie.Need-loop-holds Inv-loop μ-loop
+loop-holds c = (search needs, search needs, search needs, search needs, search needs, search needs, search needs, search needs, search written-none, search written-start)
+
+add-place : tie.Need-add-place Inv-loop μ-loop
+add-place c = search needs
+
+mul-e : tie.Need-mul-e Inv-loop μ-loop
+mul-e c = search needs
+
+array-copy-out-e : tie.Need-array-copy-out-e Inv-loop μ-loop
+array-copy-out-e c = search needs
+
+is-marked-requires : tie.Need-is-marked-requires Inv-loop μ-loop
+is-marked-requires c κs = search needs
+
+add-put-due : tie.Need-add-put-due Inv-loop μ-loop
+add-put-due c = search needs
+
+add-put-due-2 : tie.Need-add-put-due-2 Inv-loop μ-loop
+add-put-due-2 c = search needs
+
+put-due-requires : tie.Need-put-due-requires Inv-loop μ-loop
+put-due-requires c κs = (search needs, search needs, search (c .before .before .before .before .loop .inv .7))
+
+add-o : tie.Need-add-o Inv-loop μ-loop
+add-o c = search needs
+
+loop-less : tie.Need-loop-less Inv-loop μ-loop
+loop-less c = search needs
+
+loop-again : tie.Need-loop-again Inv-loop μ-loop
+loop-again c =
+    let put = c .before .before .put-due .ensures in
+    let marked = c .before .before .before .before .is-marked .ensures in
+    let inv = c .before .before .before .before .before .before .before .loop .inv in
+    (search needs, search needs, search needs, search needs, search (written-kept, needs), search written-bound, search needs, search needs, written-at _ _ _ _ _ _ _ _ _ marked (inv .8) _ (put .0), written-turn _ _ _ _ _ _ _ _ _ marked (inv .8) _ _ _ (inv .9) (put .1) _ (put .0))
+
+same-length : tie.Need-same-length Inv-loop μ-loop
+same-length c = search needs
+
+returns : tie.Need-returns Inv-loop μ-loop
+returns c = (search written-length, search written-done)
+
+pub put-verdicts-spec : {M : Type 1} → statement M
+put-verdicts-spec =
+    tie.close
+    (tie.spec
+    Inv-loop
+    μ-loop
+    loop-holds
+    add-place
+    mul-e
+    array-copy-out-e
+    is-marked-requires
+    add-put-due
+    add-put-due-2
+    put-due-requires
+    add-o
+    loop-less
+    loop-again
+    same-length
+    returns)

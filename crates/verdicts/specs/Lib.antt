@@ -1,0 +1,2 @@
+-- The definitions that the contracts of `verdicts` cite. Assumes nothing.
+pub mod Written

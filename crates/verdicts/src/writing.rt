@@ -1,0 +1,123 @@
+// Writing the verdicts: each into the part of the lent output that is not yet written.
+use downstream::Cluster;
+use downstream::Downstream;
+use downstream::Entry;
+ghost use mathlib.Core.Path.{_≡_};
+ghost use mathlib.Core.Bool.{cond};
+ghost use mathlib.Core.List.{_++_};
+ghost use Prim.Native.Nat.{ℕ, _+_, _≤_};
+ghost use lib.ListN.{length, take, drop, getD};
+ghost use Rattle.deal.specs.Hamilton.{Dealable};
+ghost use Rattle.circle.specs.Positions.{Sized};
+ghost use Rattle.resend.specs.Resends.{Ready};
+ghost use Rattle.downstream.specs.State.{noEntry};
+ghost use Rattle.verdicts.specs.Written.{verdictBytes, verdictOf, verdictsTo, verdictsOf, verdictCount, Writing};
+
+// The 16 bytes of a verdict at the start of a part; what lies behind them stays.
+fn put_verdict(part: &mut [u8], k: u64, sender: u32, receiver: u32, n: u32)
+    requires { ⌜ 16 ≤ length (now part) ⌝ }
+    ensures { λ _. ⌜ now (part .exit) ≡ verdictBytes k sender receiver n ++ drop 16 (now (part .entry)) ⌝ }
+{
+    basics::put_number(&mut part[0..8], k);
+    basics::put_number(&mut part[8..9], sender as u64);
+    basics::put_number(&mut part[9..10], receiver as u64);
+    basics::put_number(&mut part[10..11], n as u64);
+    basics::put_number(&mut part[11..16], 0);
+}
+
+// The verdict on message k, where it is due, behind the bytes already written; and where the next one goes.
+fn put_due(
+    out: &mut [u8],
+    at: usize,
+    due: bool,
+    ss: &[u32],
+    rs: &[u32],
+    counts: &[u32],
+    q: u32,
+    k: u64,
+    count: u32,
+) -> usize
+    requires { ⌜ (at + 16 ≤ length (now out)) × (Ready (now ss) (now rs) (now counts) q) × (count ≤ 255) ⌝ }
+    ensures { λ r. ⌜ (r ≡ cond due (at + 16) at) × (now (out .exit) ≡ cond due (take at (now (out .entry)) ++ (verdictOf (now (ss .entry)) (now (rs .entry)) q k (count + 1) ++ drop (at + 16) (now (out .entry)))) (now (out .entry))) ⌝ }
+{
+    if due {
+        let n = count + 1;
+        let resend = resend::known_resend(ss, rs, counts, q, k, n);
+        put_verdict(&mut out[at..], k, resend.sender, resend.receiver, n);
+        return at + 16;
+    }
+    at
+}
+
+// The verdicts on those of the n messages after p that are due, one after another; and how many bytes they take.
+fn put_verdicts(
+    out: &mut [u8],
+    due: u64,
+    ss: &[u32],
+    rs: &[u32],
+    counts: &[u32],
+    q: u32,
+    entries: [Entry; 64],
+    p: u64,
+    n: u64,
+) -> usize
+    requires { ⌜ (1024 ≤ length (now out)) × (Ready (now ss) (now rs) (now counts) q) × (p ≤ 1000000000000) × (n ≤ 64) × ((j : ℕ) → getD entries j noEntry .count ≤ 255) ⌝ }
+    ensures { λ r. ⌜ (r ≡ length (verdictsTo (now (ss .entry)) (now (rs .entry)) q due entries p n)) × (now (out .exit) ≡ verdictsTo (now (ss .entry)) (now (rs .entry)) q due entries p n ++ drop r (now (out .entry))) ⌝ }
+{
+    let mut at: usize = 0;
+    let mut o: u64 = 0;
+    while o < n {
+        let place = ((p + o) % 64) as usize;
+        let e = entries[place];
+        let marked = marks::is_marked(due, o);
+        at = put_due(out, at, marked, ss, rs, counts, q, p + 1 + o, e.count);
+        o += 1;
+    }
+    at
+}
+
+// The same, between clusters with these shares.
+fn verdicts_between(
+    out: &mut [u8],
+    due: u64,
+    ss: &[u32],
+    rs: &[u32],
+    q: u32,
+    entries: [Entry; 64],
+    p: u64,
+    n: u64,
+) -> usize
+    requires { ⌜ (1024 ≤ length (now out)) × (Sized (now ss)) × (Sized (now rs)) × (Dealable (now ss) q) × (p ≤ 1000000000000) × (n ≤ 64) × ((j : ℕ) → getD entries j noEntry .count ≤ 255) ⌝ }
+    ensures { λ r. ⌜ (r ≡ length (verdictsTo (now (ss .entry)) (now (rs .entry)) q due entries p n)) × (now (out .exit) ≡ verdictsTo (now (ss .entry)) (now (rs .entry)) q due entries p n ++ drop r (now (out .entry))) ⌝ }
+{
+    let mut places = [0u32; 64];
+    deal::fill_counts(ss, q, &mut places);
+    let members = ss.len();
+    put_verdicts(out, due, ss, rs, &places[..members], q, entries, p, n)
+}
+
+// The verdicts on the messages up to S, those that are due being known; and how many there are. Where none is due, nothing is counted out.
+// inner: for the report step, which knows what is due.
+pub fn write_verdicts(
+    sending: Cluster,
+    q: u32,
+    d: Downstream,
+    s: u64,
+    due: u64,
+    out: &mut [u8],
+) -> u32
+    requires { ⌜ (Writing sending q d s due) × (1024 ≤ length (now out)) ⌝ }
+    ensures { λ r. ⌜ (r ≡ verdictCount d s) × (now (out .exit) ≡ verdictsOf sending q d s ++ drop (length (verdictsOf sending q d s)) (now (out .entry))) ⌝ }
+{
+    if due == 0 {
+        return 0;
+    }
+    let n = sending.members as usize;
+    let ss = sending.shares;
+    let m = d.cluster.members as usize;
+    let rs = d.cluster.shares;
+    let p = d.point;
+    let entries = d.entries;
+    let bytes = verdicts_between(out, due, &ss[..n], &rs[..m], q, entries, p, s - p);
+    (bytes / 16) as u32
+}
