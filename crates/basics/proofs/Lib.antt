@@ -1,6 +1,8 @@
 -- The laws of the shared definitions, for the proofs of every crate. Assumes nothing.
 pub mod BoolLaws
 pub mod SumLaws
+pub mod HowManyLaws
+pub mod JoinLaws
 pub mod LargestLaws
 pub mod CheckLaws
 pub mod ByteLaws

@@ -8,13 +8,12 @@ use lib.ListN.{length, getD}
 use Rattle.basics.specs.Ranges.{isQuantum}
 use Rattle.basics.proofs.SumLaws.{sum-cong, list-at}
 use Rattle.shares.specs.Cluster.{Accepted}
-use Rattle.deal.specs.Hamilton.{countOf, countsOf, Dealable}
+use Rattle.hamilton.specs.Hamilton.{countOf, countsOf, Dealable}
 use Rattle.deal.specs.Rounds.{dealOf, slotsBefore}
 use Rattle.deal.specs.Pairs.{senderOf, receiverOf, slotOf, quantumOf}
-use Rattle.deal.proofs.QuotaLaws.{counts-sum, count-le}
+use Rattle.hamilton.proofs.QuotaLaws.{counts-sum, count-le}
 use Rattle.deal.proofs.SlotLaws.{length-deal, owner-below}
-use Rattle.deal.proofs.JudgeLaws.{dealable}
-use Rattle.deal.proofs.PairLaws.{length-counts}
+use Rattle.hamilton.proofs.JudgeLaws.{dealable, length-counts}
 
 module _ (s : List ℕ) (u r q : ℕ) (a : Accepted s u r) (b : isQuantum q ≡ true) where
   abbrev deals : Dealable s q

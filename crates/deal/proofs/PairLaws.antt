@@ -12,8 +12,8 @@ use borrow.Author.Tests.{eq-eqb, ne-eqb}
 use Rattle.basics.specs.Checks.{_else_, firstFailing}
 use Rattle.basics.specs.Ranges.{isMessage}
 use Rattle.basics.proofs.CheckLaws.{checks-passed, checks-failed, checks-first}
-use Rattle.basics.proofs.SumLaws.{length-list}
-use Rattle.deal.specs.Hamilton.{countOf, countsOf, Dealable}
+use Rattle.hamilton.specs.Hamilton.{countsOf, Dealable}
+use Rattle.hamilton.proofs.JudgeLaws.{length-counts}
 use Rattle.deal.specs.Rounds.{ownerOf}
 use Rattle.deal.specs.Pairs.{slotOf, quantumOf, senderOf, receiverOf, pairChecks, pairRefusal, firstPairRefusal, firstPairOf, noPair}
 use Rattle.deal.specs.declared.pairs.PairAnswer.{PairAnswer}
@@ -70,10 +70,6 @@ unfolding receiverOf slotOf quantumOf
 receiver-told s q k x r e f = rw e at f
 
 -- ---- the counts in a local array, cut to the members
-pub length-counts : (s : List ℕ) (q : ℕ) → length (countsOf s q) ≡ length s
-unfolding countsOf
-length-counts s q = length-list (countOf s q) (length s)
-
 module _ (s : List ℕ) (q : ℕ) (places z : List ℕ) (e : places ≡ countsOf s q ++ drop (length s) z) (l : length places ≡ 64) (h : Dealable s q) where
   pub places-cut : length s ≡ length (take (length s) places)
   places-cut = sym (length-take-le (length s) places (omega (arith, h .few-members)))

@@ -9,12 +9,11 @@ use native.Mathlib.Omega.{arith}
 use lib.Dec.{ltb}
 use lib.ListN.{length, getD}
 use borrow.Author.Tests.{lt-ltb, le-ltb}
-use Rattle.basics.specs.Sums.{sumBelow}
+use Rattle.basics.specs.Sums.{sumBelow, howMany, joinBelow}
 use Rattle.basics.proofs.SumLaws.{sum-start, sum-cong, sum-zero, sum-add}
-use Rattle.deal.specs.Hamilton.{howMany}
-use Rattle.deal.specs.Rounds.{joinBelow, roundOf, dealOf, slotsBefore, ownerOf}
-use Rattle.deal.proofs.HowManyLaws.{one}
-use Rattle.deal.proofs.JoinLaws.{length-join, length-join-suc, join-at, join-past, join-below}
+use Rattle.deal.specs.Rounds.{roundOf, dealOf, slotsBefore, ownerOf}
+use Rattle.basics.proofs.HowManyLaws.{one}
+use Rattle.basics.proofs.JoinLaws.{length-join, length-join-suc, join-at, join-past, join-below}
 
 module _ (c : List ℕ) (t : ℕ) where
   -- member i still has count in round t

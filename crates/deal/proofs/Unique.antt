@@ -2,18 +2,9 @@
 use mathlib.Core.Path.{_≡_}
 use mathlib.Core.List.{List}
 use Prim.Native.Nat.{ℕ}
-use lib.ListN.{length}
-use Rattle.basics.proofs.Unique.{one-answer, one-answer-and-exit}
-use Rattle.deal.specs.Counts.{countsRefusal, countsOut}
+use Rattle.basics.proofs.Unique.{one-answer}
 use Rattle.deal.specs.Pairs.{pairRefusal, firstPairOf}
 use Rattle.deal.specs.declared.pairs.PairAnswer.{PairAnswer}
-
--- the call for counts: the number, and every place of the output
-pub counts-unique : (shares : List ℕ) (u r q : ℕ) (out : List ℕ) (m n : ℕ) (x y : List ℕ)
-    → (m ≡ countsRefusal shares u r q (length out)) × (x ≡ countsOut shares u r q out)
-    → (n ≡ countsRefusal shares u r q (length out)) × (y ≡ countsOut shares u r q out)
-    → (m ≡ n) × (x ≡ y)
-counts-unique shares u r q out m n x y a b = one-answer-and-exit a b
 
 pub pair-refusal-unique : (ss : List ℕ) (su sr : ℕ) (rs : List ℕ) (ru rr q m n : ℕ)
     → m ≡ pairRefusal ss su sr rs ru rr q → n ≡ pairRefusal ss su sr rs ru rr q → m ≡ n

@@ -6,7 +6,7 @@ use lib.Dec.{eqb}
 use Rattle.basics.specs.Checks.{Check, _else_, firstFailing}
 use Rattle.basics.specs.Ranges.{isQuantum, isMessage}
 use Rattle.shares.specs.Cluster.{clusterChecks}
-use Rattle.deal.specs.Hamilton.{countsOf}
+use Rattle.hamilton.specs.Hamilton.{countsOf}
 use Rattle.deal.specs.Rounds.{ownerOf}
 use Rattle.deal.specs.declared.pairs.PairAnswer.{PairAnswer}
 

@@ -1,15 +1,10 @@
 -- The deal: q slots in rounds. Assumes nothing.
 use mathlib.Core.Bool.{cond}
-use mathlib.Core.List.{List, [], _∷_, _++_}
-use Prim.Native.Nat.{ℕ, zero, suc, min}
+use mathlib.Core.List.{List, [], _∷_}
+use Prim.Native.Nat.{ℕ, min}
 use lib.Dec.{ltb}
 use lib.ListN.{length, getD}
-use Rattle.basics.specs.Sums.{sumBelow}
-
--- the lists f 0, f 1, .., f (n - 1), one after another
-unfoldable pub joinBelow : ℕ → (ℕ → List ℕ) → List ℕ
-joinBelow zero f = []
-joinBelow (suc n) f = joinBelow n f ++ f n
+use Rattle.basics.specs.Sums.{sumBelow, joinBelow}
 
 -- each round, members in index order that still have count take one slot; t rounds went before
 unfoldable pub roundOf : List ℕ → ℕ → List ℕ

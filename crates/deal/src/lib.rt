@@ -1,11 +1,7 @@
-// Dealing first copies: Hamilton's counts, the deal in rounds, and the first copy's two ends.
-mod hamilton;
+// Dealing first copies: the deal in rounds, and the first copy's two ends.
 mod pairs;
-mod ranks;
 mod slots;
 
-pub use hamilton::counts;
-pub use hamilton::fill_counts;
 pub use pairs::PairAnswer;
 pub use pairs::first_pair;
 pub use pairs::first_sender;

@@ -1,8 +1,7 @@
 // The first copy of a message: who sends it, and to whom.
-use crate::hamilton::fill_counts;
 use crate::slots::slot_owner;
 ghost use mathlib.Core.Path.{_≡_};
-ghost use Rattle.deal.specs.Hamilton.{countsOf, Dealable};
+ghost use Rattle.hamilton.specs.Hamilton.{countsOf, Dealable};
 ghost use Rattle.deal.specs.Rounds.{ownerOf};
 ghost use Rattle.deal.specs.Pairs.{senderOf, receiverOf, pairRefusal, firstPairRefusal, firstPairOf};
 
@@ -19,7 +18,7 @@ fn owner(shares: &[u32], q: u32, slot: u32) -> u32
     ensures { λ r. ⌜ r ≡ ownerOf (countsOf (now (shares .entry)) q) q slot ⌝ }
 {
     let mut places = [0u32; 64];
-    fill_counts(shares, q, &mut places);
+    hamilton::fill_counts(shares, q, &mut places);
     let n = shares.len();
     slot_owner(&places[..n], q, slot)
 }

@@ -8,9 +8,11 @@ use lib.ListN.{replicate}
 use Rattle.basics.specs.Sums.{sumBelow, listBelow}
 use Rattle.shares.specs.Shares.{shareOf}
 use Rattle.shares.specs.Examples.{E}
-use Rattle.deal.specs.Counts.{countsRefusal, countsOut}
+use Rattle.hamilton.specs.Counts.{countsOut}
+use Rattle.hamilton.specs.Examples as counts
 use Rattle.deal.specs.Pairs as deal
-use Rattle.deal.specs.Pairs.{firstPairRefusal, firstPairOf}
+use Rattle.deal.specs.Pairs.{firstPairOf}
+use Rattle.deal.specs.Examples as pairs
 use Rattle.circle.specs.Circle.{startOf}
 use Rattle.circle.specs.Examples.{three, five, millions}
 use Rattle.resend.specs.Resends.{resendPairOf}
@@ -71,14 +73,14 @@ pub record Starred : Type 0 where
   pub then-the-first : arrivals.afterAll freshHoldings (twoTo64 ++ (1 ∷ [])) ≡ record { number = 64; mask = 0 }
 
 pub starred : Starred
-unfolding wholeResend countsOut countsRefusal firstPairOf firstPairRefusal deal.receiverOf deal.quantumOf
+unfolding wholeResend
 starred = record {
-  equal-shares = refl;
-  larger-shares = refl;
-  uneven-shares = refl;
-  one-large-share = refl;
-  lower-member-first = refl;
-  message-6 = (refl, resends.message-6);
+  equal-shares = counts.equal-shares;
+  larger-shares = counts.larger-shares;
+  uneven-shares = counts.uneven-shares;
+  one-large-share = counts.one-large-share;
+  lower-member-first = counts.lower-member-first;
+  message-6 = (pairs.message-6, resends.message-6);
   seven-resends = resends.plan-message-3;
   first-good = resends.first-good;
   E-to-millions = (refl, resends.E-to-millions);

@@ -5,7 +5,7 @@ use Prim.Native.Nat.{ℕ, _/_}
 use Rattle.basics.specs.Sums.{sumBelow, listBelow}
 use Rattle.shares.specs.Shares.{totalOf}
 use Rattle.shares.specs.Examples.{E}
-use Rattle.deal.specs.Hamilton.{quotaOf, remainderOf, undealtOf}
+use Rattle.hamilton.specs.Hamilton.{quotaOf, remainderOf, undealtOf}
 use Rattle.circle.specs.Circle.{circleUnits, factorOf}
 use Rattle.circle.specs.Examples.{millions}
 use Rattle.resend.specs.Resends.{resendPairOf}

@@ -13,7 +13,7 @@ use Rattle.basics.proofs.BoolLaws.{either}
 use Rattle.basics.proofs.CheckLaws.{Numbered, checks-first, checks-later, first-passed}
 use Rattle.shares.specs.Cluster.{Accepted}
 use Rattle.deal.specs.Pairs as deal
-use Rattle.deal.specs.Rounds.{joinBelow}
+use Rattle.basics.specs.Sums.{joinBelow}
 use Rattle.deal.specs.declared.pairs.PairAnswer.{PairAnswer}
 use Rattle.deal.proofs.JudgeLaws.{pair-numbered, pair-quantum, sending-accepted, receiving-accepted}
 use Rattle.deal.proofs.DealIsWhole.{sender-is-a-member, receiver-is-a-member}

@@ -12,7 +12,7 @@ use Rattle.basics.specs.Ranges.{isMessage, isResend}
 use Rattle.basics.proofs.BoolLaws.{either, and-both}
 use Rattle.basics.proofs.CheckLaws.{passes, none-fails}
 use Rattle.shares.specs.Shares.{shareOf}
-use Rattle.deal.specs.Rounds.{joinBelow}
+use Rattle.basics.specs.Sums.{joinBelow}
 use Rattle.resend.specs.Promise.{Asked, resend, FirstUnfailed}
 use Rattle.resend.specs.Resends.{resendRefusal, resendAt, resendPairOf}
 use Rattle.resend.proofs.ResendLaws.{resend-judged}

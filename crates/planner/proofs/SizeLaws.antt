@@ -4,9 +4,9 @@ use Prim.Native.Nat.{ℕ, zero, suc, _+_, _*_, _^_, _<_, _≤_}
 use native.Mathlib.Omega.{arith}
 use lib.Dec.{lit<}
 use lib.ListN.{length, length-append}
-use Rattle.deal.specs.Rounds.{joinBelow}
+use Rattle.basics.specs.Sums.{joinBelow}
 use Rattle.deal.specs.declared.pairs.PairAnswer.{PairAnswer}
-use Rattle.deal.proofs.JoinLaws.{length-join-suc}
+use Rattle.basics.proofs.JoinLaws.{length-join-suc}
 use Rattle.circle.specs.Circle.{senderOf, receiverOf, runOf}
 use Rattle.circle.specs.Positions.{Sized, resendOf}
 use Rattle.circle.proofs.CircleLaws.{few-units}

@@ -4,7 +4,7 @@ use mathlib.Core.List.{List, [], _++_, append-nil}
 use Prim.Native.Nat.{ℕ, suc, _+_, _*_, _-_, _<_, _≤_}
 use native.Mathlib.Omega.{arith}
 use lib.ListN.{length, take, drop, length-append, take-append-drop}
-use Rattle.deal.specs.Rounds.{joinBelow}
+use Rattle.basics.specs.Sums.{joinBelow}
 use Rattle.circle.specs.Positions.{Sized, positionOf, resendFrom, resendOf}
 use Rattle.circle.specs.declared.walk.Position.{Position}
 use Rattle.circle.proofs.PositionLaws.{resend-told}

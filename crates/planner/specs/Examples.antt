@@ -5,10 +5,10 @@ use Prim.Native.Nat.{ℕ}
 use Rattle.basics.specs.Bytes.{leOf, leBytes, allZero}
 use Rattle.basics.specs.Checks.{firstFailing}
 use Rattle.basics.specs.Ranges.{isQuantum, isMessage}
-use Rattle.basics.specs.Sums.{sumBelow, allBelow, listBelow}
+use Rattle.basics.specs.Sums.{sumBelow, howMany, allBelow, listBelow, joinBelow}
 use Rattle.shares.specs.Shares.{totalOf}
 use Rattle.shares.specs.Cluster.{membersFit, sharesFit, isShare as isShareOf, boundsFit}
-use Rattle.deal.specs.Hamilton.{howMany, quotaOf, remainderOf, undealtOf, goesFirst, aheadOf, rankOf, countOf, countsOf}
+use Rattle.hamilton.specs.Hamilton.{quotaOf, remainderOf, undealtOf, goesFirst, aheadOf, rankOf, countOf, countsOf}
 use Rattle.deal.specs.Rounds as rounds
 use Rattle.deal.specs.Pairs as deal
 use Rattle.circle.specs.Divisor.{euclid, divisorOf, multipleOf}

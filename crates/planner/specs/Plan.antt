@@ -4,7 +4,7 @@ use mathlib.Core.List.{List, _++_}
 use Prim.Native.Nat.{ℕ, _+_, _-_}
 use lib.Dec.{eqb}
 use lib.ListN.{length}
-use Rattle.deal.specs.Rounds.{joinBelow}
+use Rattle.basics.specs.Sums.{joinBelow}
 use Rattle.deal.specs.Pairs as deal
 use Rattle.deal.specs.declared.pairs.PairAnswer.{PairAnswer}
 use Rattle.circle.specs.Positions.{resendOf}

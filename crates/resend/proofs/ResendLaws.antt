@@ -15,11 +15,12 @@ use Rattle.basics.specs.Ranges.{isMessage, isResend}
 use Rattle.basics.proofs.BoolLaws.{and-left}
 use Rattle.basics.proofs.CheckLaws.{checks, checks-passed, checks-failed, checks-first, checks-later, first-passed, later-passed}
 use Rattle.shares.specs.Cluster.{Accepted}
-use Rattle.deal.specs.Hamilton.{countsOf, Dealable}
+use Rattle.hamilton.specs.Hamilton.{countsOf, Dealable}
 use Rattle.deal.specs.Pairs as deal
 use Rattle.deal.specs.Rounds.{ownerOf}
 use Rattle.deal.proofs.SlotLaws.{owner-below}
-use Rattle.deal.proofs.PairLaws.{length-counts, slot-fits, sender-told}
+use Rattle.hamilton.proofs.JudgeLaws.{length-counts}
+use Rattle.deal.proofs.PairLaws.{slot-fits, sender-told}
 use Rattle.deal.proofs.JudgeLaws.{pair-numbered, pair-quantum, sending-dealable, sending-accepted, receiving-accepted}
 use Rattle.deal.proofs.DealIsWhole.{sender-is-a-member}
 use Rattle.circle.specs.Positions.{Sized, resendOf}

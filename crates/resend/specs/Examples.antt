@@ -5,14 +5,12 @@ use mathlib.Core.Bool.{Bool, true, false, _||_}
 use mathlib.Core.List.{List, [], _∷_}
 use Prim.Native.Nat.{ℕ, _+_}
 use lib.Dec.{eqb, ltb}
-use Rattle.basics.specs.Sums.{sumBelow, allBelow, listBelow}
-use Rattle.basics.specs.Checks.{firstFailing}
-use Rattle.basics.specs.Ranges.{isQuantum, isMessage, isResend}
-use Rattle.shares.specs.Shares.{totalOf, shareOf}
-use Rattle.shares.specs.Cluster.{membersFit, sharesFit, isShare, boundsFit}
+use Rattle.basics.specs.Sums.{sumBelow, listBelow, joinBelow}
+use Rattle.basics.specs.Ranges.{isMessage, isResend}
+use Rattle.shares.specs.Shares.{shareOf}
 use Rattle.shares.specs.Examples.{E}
-use Rattle.deal.specs.Hamilton.{howMany, quotaOf, remainderOf, undealtOf, goesFirst, aheadOf, rankOf, countOf, countsOf}
-use Rattle.deal.specs.Rounds.{joinBelow, roundOf, dealOf, ownerOf}
+use Rattle.hamilton.specs.Examples.{wholeCounts}
+use Rattle.deal.specs.Rounds.{roundOf, dealOf, ownerOf}
 use Rattle.deal.specs.Pairs.{slotOf, senderOf}
 use Rattle.circle.specs.Divisor.{euclid, divisorOf, multipleOf}
 use Rattle.circle.specs.Stretches as stretches
@@ -29,7 +27,7 @@ answer from to run = record { refusal = 0; sender = from; receiver = to; run = r
 
 -- all that a resend pair is computed with, named once: what unfolds this unfolds every name of its line
 unfoldable pub wholeResend : Unit {0}
-unfolding resendPairOf resendRefusal firstFailing membersFit sharesFit isShare boundsFit isQuantum isMessage isResend allBelow resends.senderOf resends.receiverOf resends.runOf circle.senderOf circle.receiverOf circle.runOf circle.unitOf circle.startOf circle.walkOf circle.nextEnd circle.sendLayout circle.receiveLayout circle.factorOf circle.circleUnits stretches.scaled stretches.unitsBefore stretches.endOf stretches.ownerOf stretches.endAfter multipleOf divisorOf euclid senderOf slotOf ownerOf dealOf roundOf joinBelow countsOf countOf rankOf aheadOf goesFirst howMany quotaOf remainderOf undealtOf sumBelow listBelow totalOf shareOf
+unfolding wholeCounts resendPairOf resendRefusal isMessage isResend resends.senderOf resends.receiverOf resends.runOf circle.senderOf circle.receiverOf circle.runOf circle.unitOf circle.startOf circle.walkOf circle.nextEnd circle.sendLayout circle.receiveLayout circle.factorOf circle.circleUnits stretches.scaled stretches.unitsBefore stretches.endOf stretches.ownerOf stretches.endAfter multipleOf divisorOf euclid senderOf slotOf ownerOf dealOf roundOf joinBelow shareOf
 wholeResend = tt
 
 -- the first n resends of a message, as the call answers them one by one

@@ -7,7 +7,7 @@ use lib.Dec.{eqb}
 use Rattle.basics.specs.Checks.{Check, _else_, firstFailing}
 use Rattle.basics.specs.Ranges.{isMessage, isResend}
 use Rattle.deal.specs.Pairs as deal
-use Rattle.deal.specs.Hamilton.{countsOf, Dealable}
+use Rattle.hamilton.specs.Hamilton.{countsOf, Dealable}
 use Rattle.circle.specs.Circle as circle
 use Rattle.circle.specs.Positions.{Sized}
 use Rattle.circle.specs.declared.walk.Resend.{Resend}

@@ -20,8 +20,8 @@ use Rattle.basics.proofs.ByteLaws.{length-le}
 use Rattle.basics.proofs.PartLaws.{fill-next}
 use Rattle.marks.specs.Masks.{isMarked}
 use Rattle.marks.proofs.MaskLaws.{marked-none}
-use Rattle.deal.specs.Hamilton.{countsOf, Dealable}
-use Rattle.deal.proofs.PairLaws.{length-counts}
+use Rattle.hamilton.specs.Hamilton.{countsOf, Dealable}
+use Rattle.hamilton.proofs.JudgeLaws.{length-counts}
 use Rattle.circle.specs.Positions.{Sized}
 use Rattle.circle.specs.declared.walk.Resend.{Resend}
 use Rattle.resend.specs.Resends.{Ready, knownOf}

@@ -7,7 +7,7 @@ use lib.ListN.{getD}
 use Rattle.basics.specs.Sums.{sumBelow}
 use Rattle.basics.specs.Bytes.{leBytes}
 use Rattle.marks.specs.Masks.{isMarked}
-use Rattle.deal.specs.Hamilton.{Dealable}
+use Rattle.hamilton.specs.Hamilton.{Dealable}
 use Rattle.circle.specs.Positions.{Sized}
 use Rattle.resend.specs.Resends.{senderOf, receiverOf}
 use Rattle.downstream.specs.declared.state.Cluster.{Cluster}

@@ -7,7 +7,7 @@ ghost use mathlib.Core.Bool.{cond};
 ghost use mathlib.Core.List.{_++_};
 ghost use Prim.Native.Nat.{ℕ, _+_, _≤_};
 ghost use lib.ListN.{length, take, drop, getD};
-ghost use Rattle.deal.specs.Hamilton.{Dealable};
+ghost use Rattle.hamilton.specs.Hamilton.{Dealable};
 ghost use Rattle.circle.specs.Positions.{Sized};
 ghost use Rattle.resend.specs.Resends.{Ready};
 ghost use Rattle.downstream.specs.State.{noEntry};
@@ -91,7 +91,7 @@ fn verdicts_between(
     ensures { λ r. ⌜ (r ≡ length (verdictsTo (now (ss .entry)) (now (rs .entry)) q due entries p n)) × (now (out .exit) ≡ verdictsTo (now (ss .entry)) (now (rs .entry)) q due entries p n ++ drop r (now (out .entry))) ⌝ }
 {
     let mut places = [0u32; 64];
-    deal::fill_counts(ss, q, &mut places);
+    hamilton::fill_counts(ss, q, &mut places);
     let members = ss.len();
     put_verdicts(out, due, ss, rs, &places[..members], q, entries, p, n)
 }

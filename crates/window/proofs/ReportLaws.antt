@@ -9,7 +9,7 @@ use lib.ListN.{length, drop}
 use borrow.Author.Tests.{eq-eqb, ne-eqb}
 use Rattle.shares.specs.Cluster.{Accepted}
 use Rattle.shares.proofs.ClusterLaws as clusters
-use Rattle.deal.proofs.JudgeLaws.{dealable}
+use Rattle.hamilton.proofs.JudgeLaws.{dealable}
 use Rattle.circle.specs.Positions.{Sized}
 use Rattle.circle.proofs.CircleLaws.{sized}
 use Rattle.downstream.specs.declared.state.Cluster.{Cluster}

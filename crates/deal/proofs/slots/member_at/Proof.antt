@@ -2,8 +2,8 @@
 use Prim.Native.Nat.{_≤_, _-_}
 use mathlib.Core.Path.{_≡_}
 use lib.ListN.{length}
-use Rattle.deal.specs.Hamilton.{howMany}
-use Rattle.deal.proofs.HowManyLaws.{many-none, many-turn}
+use Rattle.basics.specs.Sums.{howMany}
+use Rattle.basics.proofs.HowManyLaws.{many-none, many-turn}
 use Rattle.deal.proofs.SlotLaws.{still, member-found, member-none}
 use borrow.Author.Needs.{needs}
 use Rattle.deal.proofs.slots.member_at.Statement.{statement}

@@ -1,0 +1,14 @@
+-- A product of two 32-bit numbers fits 64 bits.
+use Rattle.hamilton.proofs.CountLaws.{product}
+use borrow.Author.Needs.{needs}
+use Rattle.hamilton.proofs.ranks.times.Statement.{statement}
+use Rattle.hamilton.proofs.ranks.times.Tie as tie
+
+mul-result : tie.Need-mul-result
+mul-result c = search product
+
+returns : tie.Need-returns
+returns c = search needs
+
+pub times-spec : {M : Type 1} → statement M
+times-spec = tie.close (tie.spec mul-result returns)
