@@ -85,7 +85,7 @@ module _ (t a b : List ℕ) (e : t ≡ a ++ b) (at : ℕ) (h : at ≡ 0 + length
   lengths : length t ≡ length a + length b
   lengths = ap length e ∙ length-append a b
 
-  pub both-end : (r : ℕ) → r ≡ at + length b → r ≡ length t
+  both-end : (r : ℕ) → r ≡ at + length b → r ≡ length t
   both-end r k = omega (arith, lengths)
 
   pub both-put : (o p q : List ℕ) → length t ≤ length o → p ≡ put 0 a o → q ≡ put at b p → q ≡ put 0 t o
@@ -95,9 +95,15 @@ pub refused-parts : (n : ℕ) → refusedText n ≡ bytesOf "refused " ++ fieldO
 unfolding refusedText
 refused-parts n = refl
 
+pub refused-end : (n at r : ℕ) → at ≡ 0 + length (bytesOf "refused ") → r ≡ at + length (fieldOf n 10) → r ≡ length (refusedText n)
+refused-end n at r h k = both-end (refusedText n) (bytesOf "refused ") (fieldOf n 10) (refused-parts n) at h r k
+
 pub head-parts : (p : PairAnswer) → headerLine ++ copyLine p ≡ bytesOf "resend from to run\n" ++ lineOf 0 (p .sender) (p .receiver) 0
 unfolding headerLine copyLine
 head-parts p = refl
+
+pub head-end : (p : PairAnswer) (at r : ℕ) → at ≡ 0 + length (bytesOf "resend from to run\n") → r ≡ at + length (lineOf 0 (p .sender) (p .receiver) 0) → r ≡ length (headerLine ++ copyLine p)
+head-end p at r h k = both-end (headerLine ++ copyLine p) (bytesOf "resend from to run\n") (lineOf 0 (p .sender) (p .receiver) 0) (head-parts p) at h r k
 
 -- ---- the line of a resend that starts at a position
 module _ (n : ℕ) (pos : Position) (z : Resend) (e : z ≡ resendFrom pos) where

@@ -1,5 +1,5 @@
 -- The header, and the line of the first copy behind it.
-use Rattle.lines.proofs.LineLaws.{head-parts, both-end, both-put}
+use Rattle.lines.proofs.LineLaws.{head-parts, head-end, both-put}
 use Rattle.lines.proofs.SizeLaws.{copy-room, head-room}
 use borrow.Author.Needs.{needs}
 use Rattle.lines.proofs.lines.put_head.Statement.{statement}
@@ -24,7 +24,7 @@ same-length : tie.Need-same-length
 same-length c = search needs
 
 returns : tie.Need-returns
-returns c = (search (both-end, head-parts), search (both-put, head-parts, head-room))
+returns c = (search head-end, search (both-put, head-parts, head-room))
 
 pub put-head-spec : {M : Type 1} → statement M
 put-head-spec =

@@ -1,5 +1,5 @@
 -- The words, and the number behind them.
-use Rattle.lines.proofs.LineLaws.{refused-parts, both-end, both-put}
+use Rattle.lines.proofs.LineLaws.{refused-parts, refused-end, both-put}
 use Rattle.lines.proofs.SizeLaws.{refused-number-room, refused-room}
 use borrow.Author.Needs.{needs}
 use Rattle.lines.proofs.lines.put_refused.Statement.{statement}
@@ -18,7 +18,7 @@ same-length : tie.Need-same-length
 same-length c = search needs
 
 returns : tie.Need-returns
-returns c = (search (both-end, refused-parts), search (both-put, refused-parts, refused-room))
+returns c = (search refused-end, search (both-put, refused-parts, refused-room))
 
 pub put-refused-spec : {M : Type 1} → statement M
 put-refused-spec =
