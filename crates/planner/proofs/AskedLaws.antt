@@ -22,10 +22,11 @@ use Rattle.circle.proofs.CircleLaws.{sized}
 use Rattle.resend.specs.Promise.{Asked}
 use Rattle.resend.specs.Resends.{senderOf, receiverOf, runOf}
 use Rattle.resend.proofs.Demand3.{Allowed}
-use Rattle.planner.specs.Text.{put}
-use Rattle.planner.specs.Plan.{askedRefusal, refusedText, headerLine, copyLine, firstCopy, resendLine, resendCount, planLines, textOf, askedText, stepLine, walkLines, allLines, textRoom}
-use Rattle.planner.proofs.TextLaws.{put-next}
-use Rattle.planner.proofs.SizeLaws.{refused-few, head-few, walk-few}
+use Rattle.lines.specs.Text.{put}
+use Rattle.lines.specs.Lines.{refusedText, headerLine, copyLine, stepLine, walkLines, allLines}
+use Rattle.lines.proofs.TextLaws.{put-next}
+use Rattle.lines.proofs.SizeLaws.{refused-few, head-few, walk-few}
+use Rattle.planner.specs.Plan.{askedRefusal, firstCopy, resendLine, resendCount, planLines, textOf, askedText, textRoom}
 
 -- the checks before that of the message
 abbrev clusterChecks : Asked → List Check
@@ -81,10 +82,14 @@ module _ (a : Asked) (z : askedRefusal a ≡ 0) where
   unfolding askedText textOf planLines
   planned = simp (z, walked) (sym (append-assoc headerLine (copyLine (firstCopy a)) (allLines (a .sending) (a .receiving) (firstCopy a .sender))))
 
+  sender-short : firstCopy a .sender < 100
+  sender-short = omega (arith, sender-in, sending-passes .few-members)
+
+  receiver-short : firstCopy a .receiver < 100
+  receiver-short = omega (arith, receiver-in, receiving-passes .few-members)
+
   head-short : length (headerLine ++ copyLine (firstCopy a)) ≤ 29
-  head-short = rw length-append (head-few (firstCopy a)
-      (omega (arith, sender-in, sending-passes .few-members))
-      (omega (arith, receiver-in, receiving-passes .few-members)))
+  head-short = head-few (firstCopy a) sender-short receiver-short
 
   lines-short : 27 * (length (a .sending) + length (a .receiving) - 1) ≤ 3_429
   lines-short = omega (arith, sending-passes .few-members, receiving-passes .few-members)
@@ -139,9 +144,6 @@ module _ (a : Asked) (p : PairAnswer) (e : p ≡ firstCopy a) where
           put-next 0 at (headerLine ++ copyLine p) (allLines (a .sending) (a .receiving) (p .sender)) o q t (omega (arith, f)) u v (rw e (omega (arith, both-are a zero, planned-fits a zero)))
           ∙ ap (λ (w : List ℕ). put 0 w o) (rw e (sym (planned a zero)))
 
-pub refused-room : (n : ℕ) (o : List ℕ) → textRoom ≤ length o → length (refusedText n) ≤ length o
-refused-room n o l = omega (arith, refused-few n)
-
 -- an accepted pair of clusters, as the code knows it before it writes
 module _ (ss : List ℕ) (su sr : ℕ) (rs : List ℕ) (ru rr q k : ℕ) (p : PairAnswer) (e : p ≡ deal.firstPairOf ss su sr rs ru rr q k) (h : p .refusal ≡ 0) where
   abbrev a : Asked
@@ -156,8 +158,11 @@ module _ (ss : List ℕ) (su sr : ℕ) (rs : List ℕ) (ru rr q k : ℕ) (p : Pa
   pub sends-first : p .sender < length ss
   sends-first = rw e (sender-in a (zero a p e h))
 
-  pub head-room : (o : List ℕ) → textRoom ≤ length o → length (headerLine ++ copyLine p) ≤ length o
-  head-room o l = rw e (omega (arith, head-short a (zero a p e h)))
+  pub short-sender : p .sender < 100
+  short-sender = rw e (sender-short a (zero a p e h))
+
+  pub short-receiver : p .receiver < 100
+  short-receiver = rw e (receiver-short a (zero a p e h))
 
   pub lines-room : (at : ℕ) (o q : List ℕ) → at ≡ length (headerLine ++ copyLine p) → textRoom ≤ length o → length q ≡ length o → at + 27 * (length ss + length rs - 1) ≤ length q
   lines-room at o q f l n = omega (arith, rw e at f, head-short a (zero a p e h), lines-short a (zero a p e h))

@@ -1,20 +1,37 @@
 -- The plan's text for an input of any bytes: badly built, or as what it asks for. Assumes nothing.
-use mathlib.Core.Path.{_≡_, refl, ap, sym, _∙_}
-use mathlib.Core.Bool.{Bool, true, false}
+use mathlib.Core.Path.{_≡_, ap, sym, _∙_}
+use mathlib.Core.Bool.{true, false}
 use mathlib.Core.List.{List, _++_}
-use Prim.Native.Nat.{ℕ, _+_, _/_, _<_, _≤_}
+use Prim.Native.Nat.{ℕ, _+_, _≤_}
 use native.Mathlib.Omega.{arith}
-use lib.Dec.{leb}
 use lib.ListN.{length, take, drop, length-append}
 use lib.Seq.{length-take-le}
-use borrow.Author.Tests.{le-leb, lt-leb}
-use Rattle.basics.proofs.BoolLaws.{either, and-not-left}
-use Rattle.planner.specs.Text.{put}
-use Rattle.planner.specs.Input.{sharesFrom, senders, receivers, inOrder, isBuilt, askedWith, askedOf}
-use Rattle.planner.specs.Plan.{planRefusal, refusedText, textOf, askedText, planText, textRoom}
-use Rattle.planner.proofs.SizeLaws.{refused-few}
+use Rattle.basics.proofs.BoolLaws.{either}
+use Rattle.input.specs.Input.{isBuilt, buildOf, sharesAt, numbersOf}
+use Rattle.input.specs.declared.input.Build.{Build}
+use Rattle.input.specs.declared.input.Numbers.{Numbers}
+use Rattle.input.proofs.BuildLaws.{cut}
+use Rattle.input.proofs.BuildIs.{built-as-told, senders-as-told, receivers-as-told}
+use Rattle.lines.specs.Text.{put}
+use Rattle.lines.specs.Lines.{refusedText}
+use Rattle.lines.proofs.SizeLaws.{refused-few}
+use Rattle.planner.specs.Asked.{asking, askedWith, askedOf}
+use Rattle.planner.specs.Plan.{planRefusal, textOf, askedText, planText, textRoom}
 use Rattle.planner.proofs.AskedLaws.{asked-fits}
 
+-- ---- a well-built input's shares and numbers, as the code copies them
+module _ (s : List ℕ) (a b : ℕ) (x : Numbers) (l m y z : List ℕ) (e : l ≡ sharesAt s 1 a ++ drop a y) (f : m ≡ sharesAt s (a + 2) b ++ drop b z) (g : x ≡ numbersOf s a b) where
+  asks : asking (take a l) (take b m) x ≡ askedWith s a b
+  unfolding askedWith
+  asks = rw (cut s 1 a l y e, cut s (a + 2) b m z f, g)
+
+  pub built-end : (r : ℕ) → r ≡ length (askedText (asking (take a l) (take b m) x)) → r ≡ length (askedText (askedWith s a b))
+  built-end r h = rw asks at h
+
+  pub built-put : (o q : List ℕ) → q ≡ put 0 (askedText (asking (take a l) (take b m) x)) o → q ≡ put 0 (askedText (askedWith s a b)) o
+  built-put o q h = rw asks at h
+
+-- ---- any input
 badly-built : (s : List ℕ) → isBuilt s ≡ false → refusedText 19 ≡ planText s
 unfolding planText planRefusal textOf
 badly-built s e = sym (simp e)
@@ -42,51 +59,25 @@ front : (t o : List ℕ) → put 0 t o ≡ t ++ drop (length t) o
 unfolding put
 front t o = let e : 0 + length t ≡ length t = omega arith in ap (λ (k : ℕ). t ++ drop k o) e
 
-module _ (s : List ℕ) where
-  too-long : 4_096 < length s → isBuilt s ≡ false
-  unfolding isBuilt
-  too-long h = and-not-left (leb (length s) 4_096) (inOrder s (senders s) (receivers s)) (lt-leb (length s) 4_096 h)
+-- ---- the two ways through `plan`
+module _ (s : List ℕ) (x : Build) (e : x ≡ buildOf s) where
+  module _ (h : x .built ≡ false) where
+    bad : refusedText 19 ≡ planText s
+    bad = badly-built s (sym (built-as-told s x e) ∙ h)
 
-  pub long-end : (r : ℕ) → 4_096 < length s → r ≡ length (refusedText 19) → r ≡ length (planText s)
-  long-end r h k = k ∙ ap length (badly-built s (too-long h))
+    pub bad-end : (r : ℕ) → r ≡ length (refusedText 19) → r ≡ length (planText s)
+    bad-end r k = k ∙ ap length bad
 
-  pub long-put : (o q : List ℕ) → 4_096 < length s → q ≡ put 0 (refusedText 19) o → q ≡ planText s ++ drop (length (planText s)) o
-  long-put o q h k = k ∙ ap (λ (t : List ℕ). put 0 t o) (badly-built s (too-long h)) ∙ front (planText s) o
+    pub bad-put : (o q : List ℕ) → q ≡ put 0 (refusedText 19) o → q ≡ planText s ++ drop (length (planText s)) o
+    bad-put o q k = k ∙ ap (λ (t : List ℕ). put 0 t o) bad ∙ front (planText s) o
 
-  module _ (few : length s ≤ 4_096) (a b : ℕ) (e : a ≡ sharesFrom 2 s 1 (length s / 12)) (f : b ≡ sharesFrom 4 s (a + 2) (length s / 12)) where
-    receivers-are : b ≡ receivers s
-    unfolding receivers senders
-    receivers-are = rw e at f
-
-    senders-are : a ≡ senders s
-    unfolding senders
-    senders-are = e
-
-    asked-are : askedWith s a b ≡ askedOf s
+  module _ (h : x .built ≡ true) where
+    good : askedText (askedWith s (x .senders) (x .receivers)) ≡ planText s
     unfolding askedOf
-    asked-are = rw (senders-are, receivers-are) refl
+    good = rw (senders-as-told s x e h, receivers-as-told s x e h) (well-built s (sym (built-as-told s x e) ∙ h))
 
-    module _ (t : Bool) (g : t ≡ inOrder s a b) where
-      built-is : isBuilt s ≡ t
-      unfolding isBuilt
-      built-is = simp (le-leb (length s) 4_096 few) (sym (rw (senders-are, receivers-are) at g))
+    pub plan-end : (r : ℕ) → r ≡ length (askedText (askedWith s (x .senders) (x .receivers))) → r ≡ length (planText s)
+    plan-end r k = k ∙ ap length good
 
-      module _ (h : t ≡ false) where
-        pub other-end : (r : ℕ) → r ≡ length (refusedText 19) → r ≡ length (planText s)
-        other-end r k = k ∙ ap length (badly-built s (built-is ∙ h))
-
-        pub other-put : (o q : List ℕ) → q ≡ put 0 (refusedText 19) o → q ≡ planText s ++ drop (length (planText s)) o
-        other-put o q k = k ∙ ap (λ (w : List ℕ). put 0 w o) (badly-built s (built-is ∙ h)) ∙ front (planText s) o
-
-      module _ (h : t ≡ true) where
-        pub in-order : inOrder s a b ≡ true
-        in-order = sym g ∙ h
-
-        text-is : askedText (askedWith s a b) ≡ planText s
-        text-is = ap askedText asked-are ∙ well-built s (built-is ∙ h)
-
-        pub plan-end : (r : ℕ) → r ≡ length (askedText (askedWith s a b)) → r ≡ length (planText s)
-        plan-end r k = k ∙ ap length text-is
-
-        pub plan-put : (o q : List ℕ) → q ≡ put 0 (askedText (askedWith s a b)) o → q ≡ planText s ++ drop (length (planText s)) o
-        plan-put o q k = k ∙ ap (λ (w : List ℕ). put 0 w o) text-is ∙ front (planText s) o
+    pub plan-put : (o q : List ℕ) → q ≡ put 0 (askedText (askedWith s (x .senders) (x .receivers))) o → q ≡ planText s ++ drop (length (planText s)) o
+    plan-put o q k = k ∙ ap (λ (t : List ℕ). put 0 t o) good ∙ front (planText s) o

@@ -1,24 +1,22 @@
 -- Document 01's plan, and the refusals of inputs that are badly built or lack a cluster, by computation. Assumes nothing.
+use Prim.{Unit, tt}
 use mathlib.Core.Path.{_≡_, refl}
 use mathlib.Core.List.{List, [], _∷_, _++_}
 use Prim.Native.Nat.{ℕ}
 use Rattle.basics.specs.Bytes.{leOf, leBytes, allZero}
-use Rattle.basics.specs.Checks.{firstFailing}
-use Rattle.basics.specs.Ranges.{isQuantum, isMessage}
-use Rattle.basics.specs.Sums.{sumBelow, howMany, allBelow, listBelow, joinBelow}
-use Rattle.shares.specs.Shares.{totalOf}
-use Rattle.shares.specs.Cluster.{membersFit, sharesFit, isShare as isShareOf, boundsFit}
-use Rattle.hamilton.specs.Hamilton.{quotaOf, remainderOf, undealtOf, goesFirst, aheadOf, rankOf, countOf, countsOf}
-use Rattle.deal.specs.Rounds as rounds
 use Rattle.deal.specs.Pairs as deal
-use Rattle.circle.specs.Divisor.{euclid, divisorOf, multipleOf}
-use Rattle.circle.specs.Stretches.{scaled, unitsBefore, endOf, ownerOf, endAfter}
-use Rattle.circle.specs.Circle as circle
-use Rattle.resend.specs.Resends.{senderOf, receiverOf, runOf}
-use Rattle.planner.specs.Words.{bytesOf}
-use Rattle.planner.specs.Text.{digitsIn, digitsOf, fieldOf, lineOf}
-use Rattle.planner.specs.Input.{isKind, firstOf, secondOf, isShare, sharesFrom, senders, receivers, inOrder, isBuilt, sharesAt, numbersOf, askedWith, askedOf}
-use Rattle.planner.specs.Plan.{askedRefusal, planRefusal, refusedText, headerLine, copyLine, resendLine, resendCount, planLines, textOf, planText}
+use Rattle.resend.specs.Examples.{wholeResend}
+use Rattle.input.specs.Input.{isKind, numberAt, isShare, sharesFrom, senders, receivers, inOrder, isBuilt, sharesAt, numbersOf}
+use Rattle.lines.specs.Words.{bytesOf}
+use Rattle.lines.specs.Text.{digitsIn, digitsOf, fieldOf, lineOf}
+use Rattle.lines.specs.Lines.{refusedText, headerLine, copyLine}
+use Rattle.planner.specs.Asked.{askedWith, askedOf}
+use Rattle.planner.specs.Plan.{askedRefusal, planRefusal, resendLine, resendCount, planLines, textOf, planText}
+
+-- all that a plan is computed with, named once: what unfolds this unfolds every name of its line
+unfoldable pub wholePlan : Unit {0}
+unfolding wholeResend planText textOf planRefusal askedRefusal planLines headerLine copyLine resendLine resendCount refusedText isBuilt inOrder senders receivers sharesFrom isShare isKind numberAt sharesAt numbersOf askedWith askedOf digitsIn digitsOf fieldOf lineOf leOf leBytes allZero deal.quantumOf deal.receiverOf deal.firstPairRefusal deal.firstPairOf
+wholePlan = tt
 
 -- a 12-byte record
 abbrev pub entry : ℕ → ℕ → ℕ → List ℕ
@@ -32,33 +30,33 @@ threeToFive =
     ++ entry 5 3 3
 
 pub the-plan : planText threeToFive ≡ bytesOf "resend from to run\n0 2 2 0\n1 0 0 3\n2 0 1 2\n3 1 1 1\n4 1 2 3\n5 1 3 1\n6 2 3 2\n7 2 4 3\n"
-unfolding planText textOf planRefusal askedRefusal planLines headerLine copyLine resendLine resendCount refusedText isBuilt inOrder senders receivers sharesFrom isShare isKind firstOf secondOf sharesAt numbersOf askedWith askedOf digitsIn digitsOf fieldOf lineOf leOf leBytes allZero firstFailing isQuantum isMessage sumBelow allBelow listBelow totalOf membersFit sharesFit isShareOf boundsFit howMany quotaOf remainderOf undealtOf goesFirst aheadOf rankOf countOf countsOf rounds.joinBelow rounds.roundOf rounds.dealOf rounds.ownerOf deal.slotOf deal.quantumOf deal.senderOf deal.receiverOf deal.firstPairRefusal deal.firstPairOf euclid divisorOf multipleOf scaled unitsBefore endOf ownerOf endAfter circle.circleUnits circle.factorOf circle.sendLayout circle.receiveLayout circle.nextEnd circle.walkOf circle.startOf circle.unitOf circle.senderOf circle.receiverOf circle.runOf senderOf receiverOf runOf
+unfolding wholePlan
 the-plan = refl
 
 -- an empty input is badly built
 pub nothing-given : planText [] ≡ bytesOf "refused 19\n"
-unfolding planText textOf planRefusal refusedText isBuilt inOrder senders receivers sharesFrom isKind digitsIn digitsOf fieldOf allZero
+unfolding wholePlan
 nothing-given = refl
 
 -- no kind 2 at all is 1
 pub no-senders : planText (entry 1 1 0 ++ entry 3 0 0 ++ entry 4 1 0 ++ entry 5 1 1) ≡ bytesOf "refused 1\n"
-unfolding planText textOf planRefusal askedRefusal refusedText isBuilt inOrder senders receivers sharesFrom isShare isKind firstOf secondOf sharesAt numbersOf askedWith askedOf digitsIn digitsOf fieldOf leOf leBytes allZero firstFailing listBelow membersFit deal.firstPairRefusal
+unfolding wholePlan
 no-senders = refl
 
 -- no kind 4 at all is 1
 pub no-receivers : planText (entry 1 0 0 ++ entry 2 1 0 ++ entry 3 0 0 ++ entry 5 1 1) ≡ bytesOf "refused 1\n"
-unfolding planText textOf planRefusal askedRefusal refusedText isBuilt inOrder senders receivers sharesFrom isShare isKind firstOf secondOf sharesAt numbersOf askedWith askedOf digitsIn digitsOf fieldOf leOf leBytes allZero firstFailing sumBelow allBelow listBelow totalOf membersFit sharesFit isShareOf boundsFit deal.firstPairRefusal
+unfolding wholePlan
 no-receivers = refl
 
 -- a share with a second number, a record after kind 5, and a byte after it are badly built
 pub share-and-more : planText (entry 1 0 0 ++ entry 2 1 1 ++ entry 3 0 0 ++ entry 4 1 0 ++ entry 5 1 1) ≡ bytesOf "refused 19\n"
-unfolding planText textOf planRefusal refusedText isBuilt inOrder senders receivers sharesFrom isShare isKind secondOf digitsIn digitsOf fieldOf leOf leBytes allZero
+unfolding wholePlan
 share-and-more = refl
 
 pub record-after : planText (threeToFive ++ entry 5 3 3) ≡ bytesOf "refused 19\n"
-unfolding planText textOf planRefusal refusedText isBuilt inOrder senders receivers sharesFrom isShare isKind secondOf digitsIn digitsOf fieldOf leOf leBytes allZero
+unfolding wholePlan
 record-after = refl
 
 pub byte-after : planText (threeToFive ++ (0 ∷ [])) ≡ bytesOf "refused 19\n"
-unfolding planText textOf planRefusal refusedText isBuilt inOrder senders receivers sharesFrom isShare isKind secondOf digitsIn digitsOf fieldOf leOf leBytes allZero
+unfolding wholePlan
 byte-after = refl

@@ -1,8 +1,5 @@
 // The plan program's work: from the bytes of its input to the bytes of its text.
-mod input;
-mod lines;
 mod planning;
-mod text;
 
 pub use planning::ROOM;
 pub use planning::plan;

@@ -1,19 +1,12 @@
 // From the input's bytes to the plan's text.
-use crate::input::Numbers;
-use crate::input::fill_shares;
-use crate::input::in_order;
-use crate::input::read_numbers;
-use crate::input::shares_from;
-use crate::lines::put_head;
-use crate::lines::put_refused;
-use crate::lines::put_resends;
+use input::Numbers;
 ghost use mathlib.Core.Path.{_≡_};
-ghost use mathlib.Core.Bool.{true};
 ghost use mathlib.Core.List.{_++_};
 ghost use Prim.Native.Nat.{_≤_};
 ghost use lib.ListN.{length, drop};
-ghost use Rattle.planner.specs.Text.{put};
-ghost use Rattle.planner.specs.Input.{inOrder, asking, askedWith};
+ghost use Rattle.input.specs.Build.{BuiltOf};
+ghost use Rattle.lines.specs.Text.{put};
+ghost use Rattle.planner.specs.Asked.{asking, askedWith};
 ghost use Rattle.planner.specs.Plan.{askedText, planText, textRoom};
 
 // The bytes that a text may need: `textRoom` of the definitions.
@@ -30,22 +23,22 @@ fn put_asked(ss: &[u32], rs: &[u32], x: Numbers, out: &mut [u8]) -> usize
     let k = x.message as u64;
     let first = deal::first_pair(ss, x.su, x.sr, rs, x.ru, x.rr, x.quantum, k);
     if first.refusal != 0 {
-        return put_refused(first.refusal, out);
+        return lines::put_refused(first.refusal, out);
     }
-    let at = put_head(first, out);
-    put_resends(ss, rs, first.sender as usize, out, at)
+    let at = lines::put_head(first, out);
+    lines::put_resends(ss, rs, first.sender as usize, out, at)
 }
 
 // The text for an input with a shares of kind 2 and b of kind 4.
 fn put_built(s: &[u8], a: usize, b: usize, out: &mut [u8]) -> usize
-    requires { ⌜ (length (now s) ≤ 4096) × (inOrder (now s) a b ≡ true) × (textRoom ≤ length (now out)) ⌝ }
+    requires { ⌜ (BuiltOf (now s) a b) × (textRoom ≤ length (now out)) ⌝ }
     ensures { λ r. ⌜ (r ≡ length (askedText (askedWith (now (s .entry)) a b))) × (now (out .exit) ≡ put 0 (askedText (askedWith (now (s .entry)) a b)) (now (out .entry))) ⌝ }
 {
     let mut ss = [0u32; SHARES];
-    fill_shares(s, 1, a, &mut ss);
+    input::fill_shares(s, 1, a, &mut ss);
     let mut rs = [0u32; SHARES];
-    fill_shares(s, a + 2, b, &mut rs);
-    let x = read_numbers(s, a, b);
+    input::fill_shares(s, a + 2, b, &mut rs);
+    let x = input::read_numbers(s, a, b);
     put_asked(&ss[..a], &rs[..b], x, out)
 }
 
@@ -53,13 +46,9 @@ fn put_built(s: &[u8], a: usize, b: usize, out: &mut [u8]) -> usize
 pub fn plan(input: &[u8], out: &mut [u8; ROOM]) -> usize
     ensures { λ r. ⌜ (r ≡ length (planText (now (input .entry)))) × (now (out .exit) ≡ planText (now (input .entry)) ++ drop (length (planText (now (input .entry)))) (now (out .entry))) ⌝ }
 {
-    if 4096 < input.len() {
-        return put_refused(19, out);
+    let build = input::build_of(input);
+    if !build.built {
+        return lines::put_refused(19, out);
     }
-    let a = shares_from(input, 2, 1);
-    let b = shares_from(input, 4, a + 2);
-    if !in_order(input, a, b) {
-        return put_refused(19, out);
-    }
-    put_built(input, a, b, out)
+    put_built(input, build.senders, build.receivers, out)
 }

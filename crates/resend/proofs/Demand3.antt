@@ -58,7 +58,7 @@ module _ (a : Asked) (h : Allowed a) where
       (passes (isMessage (a .message)) 6 0 ((isResend n else 7) ∷ []) (h .message)
       (passes (isResend n) 7 0 [] (and-both (leb 1 n) (leb n 255) (le-leb 1 n l) (le-leb n 255 m)) none-fails)))
 
-  answer : (n : ℕ) → 1 ≤ n → n ≤ 255 → resend a n ≡ resendAt ss rs (a .quantum) (a .message) n
+  pub answer : (n : ℕ) → 1 ≤ n → n ≤ 255 → resend a n ≡ resendAt ss rs (a .quantum) (a .message) n
   unfolding resendPairOf
   answer n l m = simp (judged n l m)
 

@@ -1,5 +1,5 @@
 -- A refusal is told; otherwise the head stands first, and the resends behind it.
-use Rattle.planner.proofs.AskedLaws.{refused-room, refused-end, refused-put, head-room, sends, receives, sends-first, lines-room, planned-end, planned-put}
+use Rattle.planner.proofs.AskedLaws.{refused-end, refused-put, short-sender, short-receiver, sends, receives, sends-first, lines-room, planned-end, planned-put}
 use borrow.Author.Needs.{needs}
 use Rattle.planner.proofs.planning.put_asked.Statement.{statement}
 use Rattle.planner.proofs.planning.put_asked.Tie as tie
@@ -11,7 +11,7 @@ first-pair-requires : tie.Need-first-pair-requires
 first-pair-requires c κs = search needs
 
 put-refused-requires : tie.Need-put-refused-requires
-put-refused-requires c κs = search refused-room
+put-refused-requires c κs = search needs
 
 same-length : tie.Need-same-length
 same-length c = search needs
@@ -20,7 +20,7 @@ returns : tie.Need-returns
 returns c = (search refused-end, search refused-put)
 
 put-head-requires : tie.Need-put-head-requires
-put-head-requires c κs = search head-room
+put-head-requires c κs = (search short-sender, search short-receiver, search needs)
 
 cast-put-resends : tie.Need-cast-put-resends
 cast-put-resends c = search needs

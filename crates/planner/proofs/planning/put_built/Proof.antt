@@ -1,5 +1,6 @@
 -- An input in the right order has the records that are read, and its shares are copied whole.
-use Rattle.planner.proofs.BuildLaws.{sending-in, receiving-in, last-in, few-sending, few-receiving, past-sending, sending-room, receiving-room, sending-cut, receiving-cut, built-end, built-put}
+use Rattle.input.proofs.BuildLaws.{records-in, record-in, few-shares, record-fits, sending-cut, receiving-cut}
+use Rattle.planner.proofs.PlanLaws.{built-end, built-put}
 use borrow.Author.Needs.{needs}
 use Rattle.planner.proofs.planning.put_built.Statement.{statement}
 use Rattle.planner.proofs.planning.put_built.Tie as tie
@@ -8,28 +9,28 @@ slice-aggregate-fill-shares : tie.Need-slice-aggregate-fill-shares
 slice-aggregate-fill-shares c = search needs
 
 fill-shares-requires : tie.Need-fill-shares-requires
-fill-shares-requires c κs = (search sending-in, search few-sending)
+fill-shares-requires c κs = (search (records-in, needs), search (few-shares, needs))
 
 add-fill-shares : tie.Need-add-fill-shares
-add-fill-shares c = search past-sending
+add-fill-shares c = search (record-fits, needs)
 
 slice-aggregate-fill-shares-2 : tie.Need-slice-aggregate-fill-shares-2
 slice-aggregate-fill-shares-2 c = search needs
 
 fill-shares-requires-2 : tie.Need-fill-shares-requires-2
-fill-shares-requires-2 c κs = (search receiving-in, search few-receiving)
+fill-shares-requires-2 c κs = (search (records-in, needs), search (few-shares, needs))
 
 read-numbers-requires : tie.Need-read-numbers-requires
-read-numbers-requires c κs = search last-in
+read-numbers-requires c κs = search (record-in, needs)
 
 array-share-prefix-ss : tie.Need-array-share-prefix-ss
-array-share-prefix-ss c = search sending-room
+array-share-prefix-ss c = search (few-shares, needs)
 
 slice-aggregate-put-asked : tie.Need-slice-aggregate-put-asked
 slice-aggregate-put-asked c = search sending-cut
 
 array-share-prefix-rs : tie.Need-array-share-prefix-rs
-array-share-prefix-rs c = search receiving-room
+array-share-prefix-rs c = search (few-shares, needs)
 
 slice-aggregate-put-asked-2 : tie.Need-slice-aggregate-put-asked-2
 slice-aggregate-put-asked-2 c = search receiving-cut

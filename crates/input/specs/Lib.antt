@@ -1,0 +1,3 @@
+-- The definitions that the contracts of `input` cite. Assumes nothing.
+pub mod Input
+pub mod Build

@@ -1,0 +1,133 @@
+-- Decimal digits and text put into an output: lengths, and one text behind another. Assumes nothing.
+use mathlib.Core.Path.{_≡_, refl, ap, ap₂, sym, _∙_}
+use mathlib.Core.List.{List, [], _∷_, _++_, append-assoc}
+use Prim.Native.Nat.{ℕ, zero, suc, _+_, _/_, _%_, _^_, _<_, _≤_}
+use native.Mathlib.Nat.{pow-suc}
+use native.Mathlib.Numerals.{add-one}
+use native.Mathlib.Omega.{arith}
+use lib.Dec.{ltb}
+use lib.ListN.{length, take, drop, set, getD, length-append, length-take, length-drop}
+use lib.Seq.{drop-cons, set-at, set-split, length-take-le, take-at, drop-append-add, drop-drop, take-all, paste, paste-zero, paste-suc}
+use mir.Val.{Fits}
+use mir.Syntax.{w64}
+use borrow.Author.Tests.{lt-ltb, le-ltb}
+use Rattle.basics.proofs.BoolLaws.{either}
+use Rattle.lines.specs.Text.{digitsIn, digitsOf, put}
+
+-- ---- digits
+-- a number below 10 ^ n has at most n digits, and 0 has one
+pub digits-few : (n m x : ℕ) → x < 10 ^ suc n → length (digitsIn m x) ≤ suc n
+unfolding digitsIn
+digits-few n zero x h = omega arith
+digits-few zero (suc m) x h = simp (lt-ltb x 10 h) (omega arith)
+digits-few (suc n) (suc m) x h = either _ (ltb x 10)
+    (λ e. simp e (omega arith))
+    (λ e. simp (e, length-append) (omega (arith, digits-few n m (x / 10) (omega (arith, pow-suc 10 (suc n))))))
+
+-- no text has more digits than it has room for
+pub digits-le : (m x : ℕ) → length (digitsIn m x) ≤ m
+unfolding digitsIn
+digits-le zero x = omega arith
+digits-le (suc m) x = either _ (ltb x 10)
+    (λ e. simp e (omega arith))
+    (λ e. simp (e, length-append) (omega (arith, digits-le m (x / 10))))
+
+-- more room than digits changes nothing
+enough : (n x : ℕ) → x < 10 ^ suc n → digitsIn (suc (suc n)) x ≡ digitsIn (suc n) x
+unfolding digitsIn
+enough zero x h = simp (lt-ltb x 10 h)
+enough (suc n) x h = either _ (ltb x 10)
+    (λ e. simp e)
+    (λ e. simp e (ap (λ (l : List ℕ). l ++ ((48 + x % 10) ∷ [])) (enough n (x / 10) (omega (arith, pow-suc 10 (suc n))))))
+
+digits-one : (x : ℕ) → x < 10 → digitsOf x ≡ (48 + x) ∷ []
+unfolding digitsOf digitsIn
+digits-one x h = simp (lt-ltb x 10 h)
+
+one-more : (n x : ℕ) → 10 ≤ x → digitsIn (suc n) x ≡ digitsIn n (x / 10) ++ ((48 + x % 10) ∷ [])
+unfolding digitsIn
+one-more n x h = simp (le-ltb x 10 h)
+
+digits-more : (x : ℕ) → Fits w64 x → 10 ≤ x → digitsOf x ≡ digitsOf (x / 10) ++ ((48 + x % 10) ∷ [])
+unfolding digitsOf
+digits-more x f h = one-more 19 x h ∙ ap (λ (l : List ℕ). l ++ ((48 + x % 10) ∷ [])) (sym (enough 18 (x / 10) (omega (arith, f .fits))))
+
+-- ---- text in an output
+pub length-put : (at : ℕ) (bs o : List ℕ) → at + length bs ≤ length o → length (put at bs o) ≡ length o
+unfolding put
+length-put at bs o h = simp (length-append, length-take, length-drop) (omega arith)
+
+-- one byte
+put-one : (at : ℕ) (o : List ℕ) (v : ℕ) → at < length o → set o at v ≡ put at (v ∷ []) o
+unfolding put
+put-one at o v h = set-split o at v h ∙ rw add-one (sym (append-assoc (take at o) (v ∷ []) (drop (suc at) o)))
+
+-- one byte more, behind those that were put
+pub put-more : (at : ℕ) (bs o : List ℕ) (v : ℕ) → at + length bs < length o → set (put at bs o) (at + length bs) v ≡ put at (bs ++ (v ∷ [])) o
+unfolding put
+put-more at bs o v h =
+    let n : length (take at o ++ bs) ≡ at + length bs = length-append (take at o) bs ∙ ap (λ (k : ℕ). k + length bs) (length-take-le at o (omega arith)) in
+    let m : at + length (bs ++ (v ∷ [])) ≡ suc (at + length bs) = omega (arith, length-append bs (v ∷ [])) in
+    rw (drop-cons o (at + length bs) 0 h, m)
+    (set-at (take at o ++ bs) (getD o (at + length bs) 0) (drop (suc (at + length bs)) o) v (at + length bs) n
+    ∙ sym (ap (λ (l : List ℕ). l ++ drop (suc (at + length bs)) o) (sym (append-assoc (take at o) bs (v ∷ []))) ∙ append-assoc (take at o ++ bs) (v ∷ []) (drop (suc (at + length bs)) o)))
+
+-- one text behind another is both at once
+pub put-put : (at : ℕ) (a b o : List ℕ) → at + (length a + length b) ≤ length o → put (at + length a) b (put at a o) ≡ put at (a ++ b) o
+unfolding put
+put-put at a b o h =
+    let n : length (take at o ++ a) ≡ at + length a = length-append (take at o) a ∙ ap (λ (k : ℕ). k + length a) (length-take-le at o (omega arith)) in
+    let m : at + length a + length b ≡ length (take at o ++ a) + length b = ap (λ (k : ℕ). k + length b) (sym n) in
+    let w : at + length a + length b ≡ at + length (a ++ b) = omega (arith, length-append a b) in
+    ap (λ (l : List ℕ). l ++ b ++ drop (at + length a + length b) (take at o ++ a ++ drop (at + length a) o)) (take-at (take at o ++ a) (drop (at + length a) o) (at + length a) n)
+    ∙ ap (λ (l : List ℕ). take at o ++ a ++ b ++ l) (ap (λ (k : ℕ). drop k (take at o ++ a ++ drop (at + length a) o)) m ∙ drop-append-add (take at o ++ a) (drop (at + length a) o) (length b) ∙ drop-drop (length b) (at + length a) o)
+    ∙ ap₂ (λ (l : List ℕ) (k : ℕ). l ++ drop k o) (append-assoc (take at o) a b) w
+
+-- the same, as the code has it after two calls
+pub put-next : (at n : ℕ) (a b o p q : List ℕ) → n ≡ at + length a → p ≡ put at a o → q ≡ put n b p → at + (length a + length b) ≤ length o → q ≡ put at (a ++ b) o
+put-next at n a b o p q e u v h = v ∙ ap₂ (λ (k : ℕ) (l : List ℕ). put k b l) e u ∙ put-put at a b o h
+
+-- ---- the copy of bytes, one after another
+pub bytes-start : (at : ℕ) (bs o : List ℕ) → o ≡ paste o at bs 0
+bytes-start at bs o = paste-zero o at bs
+
+pub bytes-turn : (at i : ℕ) (bs o l : List ℕ) → l ≡ paste o at bs i → at + length bs ≤ length o → i < length bs → set l (at + i) (getD bs i 0) ≡ paste o at bs (i + 1)
+bytes-turn at i bs o l e h k = rw (e, add-one) (paste-suc o at bs i 0 (omega arith) k)
+
+pub bytes-done : (at i : ℕ) (bs o l : List ℕ) → l ≡ paste o at bs i → i ≤ length bs → length bs ≤ i → l ≡ put at bs o
+unfolding put
+bytes-done at i bs o l e a b =
+    let z : i ≡ length bs = omega arith in
+    e ∙ ap (λ (k : ℕ). paste o at bs k) z ∙ ap (λ (t : List ℕ). take at o ++ t ++ drop (at + length bs) o) (take-all (length bs) bs (omega arith))
+
+-- ---- the two ways through `put_number`
+module _ (x at : ℕ) (o : List ℕ) (r : at + length (digitsOf x) ≤ length o) where
+  module _ (h : x < 10) where
+    pub small-room : at < length o
+    small-room = omega (arith, ap length (digits-one x h))
+
+    pub small-end : at + 1 ≡ at + length (digitsOf x)
+    small-end = rw (digits-one x h) refl
+
+    pub small-put : set o at (48 + x) ≡ put at (digitsOf x) o
+    small-put = rw (digits-one x h) (put-one at o (48 + x) small-room)
+
+  module _ (f : Fits w64 x) (h : 10 ≤ x) where
+    longer : length (digitsOf x) ≡ length (digitsOf (x / 10)) + 1
+    longer = ap length (digits-more x f h) ∙ length-append (digitsOf (x / 10)) ((48 + x % 10) ∷ [])
+
+    pub large-fits-in : at + length (digitsOf (x / 10)) ≤ length o
+    large-fits-in = omega (arith, longer)
+
+    module _ (n : ℕ) (p : List ℕ) (e : n ≡ at + length (digitsOf (x / 10))) (w : p ≡ put at (digitsOf (x / 10)) o) where
+      pub large-room : n < length o
+      large-room = omega (arith, longer)
+
+      pub large-end : n + 1 ≡ at + length (digitsOf x)
+      large-end = omega (arith, longer)
+
+      pub large-put : set p n (48 + x % 10) ≡ put at (digitsOf x) o
+      large-put = rw (w, e, digits-more x f h) (put-more at (digitsOf (x / 10)) o (48 + x % 10) (omega (arith, longer)))
+
+      pub large-fits : length o < 2 ^ 64 → Fits w64 (n + 1)
+      large-fits b = record { fits = omega (arith, large-room) }
