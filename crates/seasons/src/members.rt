@@ -1,0 +1,60 @@
+// Calls of the receiving member.
+use crate::words;
+use holdings::Holdings;
+use script::say;
+
+fn say_holdings(h: Holdings) {
+    say::number(h.number);
+    say::number(h.mask);
+}
+
+// arrive k: the refusal and the holdings after it.
+fn arrive(h: Holdings, k: u64) -> Holdings {
+    let a = holdings::arrive(h, k);
+    let next = a.holdings;
+    say::refusal(a.refusal);
+    say_holdings(next);
+    next
+}
+
+// tell: the receiver's report, its refusal first.
+fn tell(h: Holdings) {
+    let a = holdings::report(h);
+    say::refusal(a.refusal);
+    say::number(a.number);
+    say::number(a.mask);
+}
+
+// hold c mask: the holdings that the next calls get, well formed or not.
+fn hold(args: &[u64; 100]) -> Holdings {
+    Holdings {
+        number: args[1],
+        mask: args[2],
+    }
+}
+
+// holds-well: 1 where the holdings are well formed, else 0.
+fn holds_well(h: Holdings) {
+    say::truth(holdings::well_formed(h));
+}
+
+pub(crate) fn asked(h: Holdings, word: usize) {
+    if word == words::TELL {
+        tell(h);
+    } else if word == words::HOLDS_WELL {
+        holds_well(h);
+    }
+}
+
+// The receiving member after the line.
+pub(crate) fn after(h: Holdings, word: usize, args: &[u64; 100]) -> Holdings {
+    if word == words::ARRIVE {
+        arrive(h, args[1])
+    } else if word == words::HOLD {
+        hold(args)
+    } else if word == words::FRESH {
+        holdings::fresh()
+    } else {
+        h
+    }
+}
