@@ -8,6 +8,7 @@
 // one costs no proof.
 mod bench;
 mod edits;
+mod lent;
 mod lines;
 mod members;
 mod places;

@@ -1,19 +1,16 @@
 // Calls of the receiving member.
+use crate::lent;
 use crate::words;
+use holdings::ArrivalAnswer;
 use holdings::Holdings;
 use script::say;
 
-fn say_holdings(h: Holdings) {
-    say::number(h.number);
-    say::number(h.mask);
-}
-
-// arrive k: the refusal and the holdings after it.
-fn arrive(h: Holdings, k: u64) -> Holdings {
-    let a = holdings::arrive(h, k);
+// arrive k, and arrive-at k by lent holdings: the refusal and the holdings after it.
+fn say_arrival(a: ArrivalAnswer) -> Holdings {
     let next = a.holdings;
     say::refusal(a.refusal);
-    say_holdings(next);
+    say::number(next.number);
+    say::number(next.mask);
     next
 }
 
@@ -49,7 +46,9 @@ pub(crate) fn asked(h: Holdings, word: usize) {
 // The receiving member after the line.
 pub(crate) fn after(h: Holdings, word: usize, args: &[u64; 100]) -> Holdings {
     if word == words::ARRIVE {
-        arrive(h, args[1])
+        say_arrival(holdings::arrive(h, args[1]))
+    } else if word == words::ARRIVE_AT {
+        say_arrival(lent::arrive_lent(h, args[1]))
     } else if word == words::HOLD {
         hold(args)
     } else if word == words::FRESH {

@@ -43,9 +43,11 @@ pub(crate) const FRESH: usize = 19;
 
 pub(crate) const HOLDS_WELL: usize = 20;
 
+pub(crate) const ARRIVE_AT: usize = 21;
+
 pub(crate) fn word_of(line: &[u8]) -> usize {
     input::place_of(
         line,
-        b"open send report formed show keep back put-quantum put-sent put-sending put-sending-share put-receiving put-receiving-share put-point put-report put-entry arrive tell hold fresh holds-well ",
+        b"open send report formed show keep back put-quantum put-sent put-sending put-sending-share put-receiving put-receiving-share put-point put-report put-entry arrive tell hold fresh holds-well arrive-at ",
     )
 }
