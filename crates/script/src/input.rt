@@ -1,5 +1,7 @@
 // A line's word and its numbers.
-ghost use Prim.Native.Nat.{_≤_};
+ghost use mathlib.Core.Path.{_≡_};
+ghost use Prim.Native.Nat.{_-_, _≤_, min};
+ghost use lib.ListN.{getD};
 ghost use Rattle.io.specs.Counts.{Counts};
 
 fn ten_times(x: u64) -> u64 {
@@ -83,7 +85,9 @@ pub fn place_of(line: &[u8], words: &[u8]) -> usize {
 }
 
 // A number as the call's parameter has it: one that is too large is the largest that fits.
-pub fn short(x: u64) -> u32 {
+pub fn short(x: u64) -> u32
+    ensures { λ r. ⌜ r ≡ min x 4294967295 ⌝ }
+{
     if x < 4_294_967_296 {
         x as u32
     } else {
@@ -91,7 +95,9 @@ pub fn short(x: u64) -> u32 {
     }
 }
 
-pub fn byte(x: u64) -> u8 {
+pub fn byte(x: u64) -> u8
+    ensures { λ r. ⌜ r ≡ min x 255 ⌝ }
+{
     if x < 256 { x as u8 } else { 255 }
 }
 
@@ -108,12 +114,16 @@ pub fn first_bytes(n: usize, bytes: &[u8]) -> usize
     if n <= bytes.len() { n } else { 0 }
 }
 
-pub fn less(a: usize, b: usize) -> usize {
+pub fn less(a: usize, b: usize) -> usize
+    ensures { λ r. ⌜ r ≡ a - b ⌝ }
+{
     if b <= a { a - b } else { 0 }
 }
 
 // The number at a place, 0 past the last.
-pub fn number_at(numbers: &[u64], i: usize) -> u64 {
+pub fn number_at(numbers: &[u64], i: usize) -> u64
+    ensures { λ r. ⌜ r ≡ getD (now (numbers .entry)) i 0 ⌝ }
+{
     if i < numbers.len() { numbers[i] } else { 0 }
 }
 

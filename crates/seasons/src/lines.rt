@@ -5,7 +5,7 @@ use crate::members;
 use crate::windows;
 use crate::words;
 use script::input;
-use script::lines::line_end;
+use script::lines::line_length;
 use script::say;
 use script::sides::sides_after;
 use window::Window;
@@ -45,7 +45,7 @@ pub(crate) fn run_all(cases: &[u8]) {
     let mut b = bench::empty();
     let mut start = 0;
     while start < cases.len() {
-        let end = line_end(cases, start);
+        let end = start + line_length(cases, start);
         b = run_line(b, &cases[start..end]);
         if cases.len() <= end {
             return;

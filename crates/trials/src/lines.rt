@@ -8,7 +8,7 @@ use crate::pairs;
 use crate::plans;
 use crate::words;
 use script::input;
-use script::lines::line_end;
+use script::lines::line_length;
 use script::say;
 use script::sides::Sides;
 use script::sides::no_sides;
@@ -16,10 +16,10 @@ use script::sides::sides_after;
 
 // Calls on numbers alone.
 fn number_case(word: usize, args: &[u64; 100]) {
-    numbers::sum(word, args);
-    numbers::range(word, args[1]);
-    masks::change(word, args[1], args[2]);
-    masks::test(word, args);
+    numbers::say_number(word, args);
+    numbers::say_range(word, args[1]);
+    masks::say_number(word, args[1], args[2]);
+    masks::say_truth(word, args);
     if word == words::RESEND_FROM {
         circles::resend_from(args);
     }
@@ -44,7 +44,7 @@ pub(crate) fn run_all(cases: &[u8]) {
     let mut s = no_sides();
     let mut start = 0;
     while start < cases.len() {
-        let end = line_end(cases, start);
+        let end = start + line_length(cases, start);
         s = run_line(s, &cases[start..end]);
         if cases.len() <= end {
             return;

@@ -3,7 +3,7 @@ use crate::words;
 use script::say;
 
 // mark mask b, unmark mask b, past mask d: the mask after it. run mask, reach mask: how many bits.
-pub(crate) fn change(word: usize, mask: u64, b: u64) {
+pub(crate) fn say_number(word: usize, mask: u64, b: u64) {
     if word == words::MARK {
         say::answer(marks::mark(mask, b));
     } else if word == words::UNMARK {
@@ -18,7 +18,7 @@ pub(crate) fn change(word: usize, mask: u64, b: u64) {
 }
 
 // is-marked mask b, is-subset a b, holds c mask k, none-above c mask s: whether it is so.
-pub(crate) fn test(word: usize, args: &[u64; 100]) {
+pub(crate) fn say_truth(word: usize, args: &[u64; 100]) {
     let a = args[1];
     let b = args[2];
     if word == words::IS_MARKED {

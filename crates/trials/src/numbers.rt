@@ -4,7 +4,7 @@ use script::input;
 use script::say;
 
 // wide x: the same number. less a b: what is left of a after b. least a b: the smaller. divisor a b: the greatest common one.
-pub(crate) fn sum(word: usize, args: &[u64; 100]) {
+pub(crate) fn say_number(word: usize, args: &[u64; 100]) {
     let a = args[1];
     let b = args[2];
     if word == words::WIDE {
@@ -19,7 +19,7 @@ pub(crate) fn sum(word: usize, args: &[u64; 100]) {
 }
 
 // is-message k, is-quantum q, is-resend n: whether it is in its range.
-pub(crate) fn range(word: usize, x: u64) {
+pub(crate) fn say_range(word: usize, x: u64) {
     if word == words::IS_MESSAGE {
         say::truth(basics::is_message(x));
     } else if word == words::IS_QUANTUM {
