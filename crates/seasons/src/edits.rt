@@ -9,58 +9,47 @@ use window::Window;
 
 // members u r
 fn bounds(c: Cluster, args: &[u64; 100]) -> Cluster {
-    let shares = c.shares;
-    Cluster {
-        members: input::short(args[1]),
-        u: input::short(args[2]),
-        r: input::short(args[3]),
-        shares,
-    }
+    let mut next = c;
+    next.members = input::short(args[1]);
+    next.u = input::short(args[2]);
+    next.r = input::short(args[3]);
+    next
 }
 
 // place share
 fn share(c: Cluster, args: &[u64; 100]) -> Cluster {
-    let mut shares = c.shares;
+    let mut next = c;
     let at = args[1] as usize;
     if at < 64 {
-        shares[at] = input::short(args[2]);
+        next.shares[at] = input::short(args[2]);
     }
-    Cluster {
-        members: c.members,
-        u: c.u,
-        r: c.r,
-        shares,
-    }
+    next
 }
 
 // member c mask heard
 fn report(d: Downstream, args: &[u64; 100]) -> Downstream {
     let mut next = d;
-    let mut reports = d.reports;
     let at = args[1] as usize;
     if at < 64 {
-        reports[at] = Report {
+        next.reports[at] = Report {
             number: args[2],
             mask: args[3],
             heard: args[4] == 1,
         };
     }
-    next.reports = reports;
     next
 }
 
 // place count complaints
 fn entry(d: Downstream, args: &[u64; 100]) -> Downstream {
     let mut next = d;
-    let mut entries = d.entries;
     let at = args[1] as usize;
     if at < 64 {
-        entries[at] = Entry {
+        next.entries[at] = Entry {
             count: input::short(args[2]),
             complaints: args[3],
         };
     }
-    next.entries = entries;
     next
 }
 

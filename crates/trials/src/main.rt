@@ -10,7 +10,6 @@
 mod bytes;
 mod circles;
 mod clusters;
-mod groups;
 mod lines;
 mod links;
 mod masks;

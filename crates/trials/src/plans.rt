@@ -1,6 +1,6 @@
 // The plan program's call.
-use crate::groups;
 use crate::words;
+use script::groups;
 use script::input;
 use script::outputs;
 use script::say;

@@ -3,8 +3,8 @@ use Prim.Native.Nat.{_≤_, _-_}
 use mathlib.Core.Path.{_≡_}
 use lib.ListN.{length}
 use borrow.Author.Needs.{needs}
-use Rattle.trials.proofs.groups.fill.Statement.{statement}
-use Rattle.trials.proofs.groups.fill.Tie as tie
+use Rattle.script.proofs.groups.fill.Statement.{statement}
+use Rattle.script.proofs.groups.fill.Tie as tie
 
 abbrev Inv-loop : tie.InvT-loop
 Inv-loop args is-raw bytes₀ i₀ bytes i = (i ≤ length bytes₀) × (length bytes ≡ length bytes₀)

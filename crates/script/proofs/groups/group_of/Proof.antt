@@ -1,8 +1,8 @@
 -- The place is past the numbers by less than a group at most, and each turn starts at a later one.
 use Prim.Native.Nat.{_≤_, _-_}
 use borrow.Author.Needs.{needs}
-use Rattle.trials.proofs.groups.group_of.Statement.{statement}
-use Rattle.trials.proofs.groups.group_of.Tie as tie
+use Rattle.script.proofs.groups.group_of.Statement.{statement}
+use Rattle.script.proofs.groups.group_of.Tie as tie
 
 abbrev Inv-loop : tie.InvT-loop
 Inv-loop args is-raw x at₀ rest₀ at rest = at ≤ 104

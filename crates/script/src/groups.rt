@@ -1,6 +1,6 @@
 // The plan program's input, which a case gives in groups of numbers: how often, and what. Records and bytes in long rows then
 // need few numbers.
-use script::input;
+use crate::input;
 ghost use Prim.Native.Nat.{_<_, _≤_};
 
 // How many numbers a group has: how often, and a byte; or how often, and a record's kind and two numbers.
@@ -76,7 +76,7 @@ fn unit_of(is_raw: bool, i: usize) -> u64 {
 }
 
 // Fills the input from the groups, and answers how many bytes it has.
-pub(crate) fn fill(args: &[u64; 100], is_raw: bool, bytes: &mut [u8]) -> usize {
+pub fn fill(args: &[u64; 100], is_raw: bool, bytes: &mut [u8]) -> usize {
     let mut i = 0;
     while i < bytes.len() {
         let at = group_of(args, is_raw, unit_of(is_raw, i));
