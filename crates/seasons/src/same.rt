@@ -1,6 +1,4 @@
 // Whether two states are the same in every field: one walk over the places compares shares, reports and entries together.
-use crate::places::entry_at;
-use crate::places::report_at;
 use crate::places::share_at;
 use window::Cluster;
 use window::Downstream;
@@ -27,8 +25,8 @@ fn same_downstream_at(a: Downstream, b: Downstream, i: usize) -> bool
     requires { ⌜ i < 64 ⌝ }
 {
     same_share_at(a.cluster, b.cluster, i)
-        & same_report(report_at(a, i), report_at(b, i))
-        & same_entry(entry_at(a, i), entry_at(b, i))
+        & same_report(a.reports[i], b.reports[i])
+        & same_entry(a.entries[i], b.entries[i])
 }
 
 fn same_at(a: Window, b: Window, i: usize) -> bool

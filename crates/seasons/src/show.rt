@@ -1,6 +1,4 @@
 // All that a state holds: one walk over the places shows whichever of its arrays is asked for.
-use crate::places::entry_at;
-use crate::places::report_at;
 use crate::places::share_at;
 use script::say;
 use window::Cluster;
@@ -45,9 +43,9 @@ fn show_downstream_at(d: Downstream, array: u32, i: usize)
     if array == RECEIVING {
         show_share(i, share_at(d.cluster, i));
     } else if array == REPORTS {
-        show_report(i, report_at(d, i));
+        show_report(i, d.reports[i]);
     } else if array == ENTRIES {
-        show_entry(i, entry_at(d, i));
+        show_entry(i, d.entries[i]);
     }
 }
 
