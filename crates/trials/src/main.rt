@@ -4,9 +4,10 @@
 // first, stands above the function that the word leads to.
 //
 // The expected lines were not taken from a run: they were worked out by an independent model of document 01, written from
-// the document alone, and the refusals by hand from its table and its orders. For the small functions, which the document does
-// not name, that model counts on sets of bits and of messages, not on masks. Cases are lines and not code, so that another
-// one costs no proof. Functions that ask something of their caller are not here: a line could not be held to it.
+// the document alone, and the refusals by hand from its table and its orders. The document does not name the small functions:
+// what they are to answer is what stands above each of them, and it was worked out on sets of bits and of messages, not on
+// masks. Cases are lines and not code, so that another one costs no proof. Functions that ask something of their caller are not
+// here: a line could not be held to it.
 mod bytes;
 mod circles;
 mod clusters;
