@@ -1,17 +1,17 @@
 // Calls on one cluster: its acceptance and its counts.
-use crate::bench::Side;
-use crate::bench::side_from;
-use crate::input;
-use crate::say;
+use crate::words;
+use script::input;
+use script::say;
+use script::sides::Side;
+use script::sides::side_from;
 
 // cluster u r shares: the refusal.
 fn cluster_in(shares: &[u32], s: Side) {
     let n = input::first_words(s.members, shares);
-    let refusal = shares::cluster_refusal(&shares[..n], s.u, s.r);
-    say::refusal(refusal);
+    say::refusal(shares::cluster_refusal(&shares[..n], s.u, s.r));
 }
 
-pub(crate) fn cluster(args: &[u64; 100], n: usize) {
+fn cluster(args: &[u64; 100], n: usize) {
     let s = side_from(args, n);
     let shares = s.shares;
     cluster_in(&shares, s);
@@ -20,7 +20,7 @@ pub(crate) fn cluster(args: &[u64; 100], n: usize) {
 // counts q room, of the sending cluster: the refusal and all places of the output, each 7 before.
 fn counts_in(shares: &[u32], s: Side, q: u32, out: &mut [u32]) {
     let n = input::first_words(s.members, shares);
-    let refusal = deal::counts(&shares[..n], s.u, s.r, q, out);
+    let refusal = hamilton::counts(&shares[..n], s.u, s.r, q, out);
     say::refusal(refusal);
     say::list(out);
 }
@@ -34,9 +34,22 @@ fn sevens() -> [u32; 100] {
     [7; 100]
 }
 
-pub(crate) fn counts(s: Side, args: &[u64; 100]) {
+fn counts(s: Side, args: &[u64; 100]) {
     let shares = s.shares;
-    let q = input::short(args[1]);
     let mut out = sevens();
-    counts_to(&shares, s, q, &mut out, args[2] as usize);
+    counts_to(
+        &shares,
+        s,
+        input::short(args[1]),
+        &mut out,
+        args[2] as usize,
+    );
+}
+
+pub(crate) fn asked(s: Side, word: usize, args: &[u64; 100], n: usize) {
+    if word == words::CLUSTER {
+        cluster(args, n);
+    } else if word == words::COUNTS {
+        counts(s, args);
+    }
 }

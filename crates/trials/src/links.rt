@@ -1,10 +1,10 @@
 // Link records: reading and writing.
-use crate::input;
-use crate::say;
 use records::ReadAnswer;
 use records::Record;
 use records::Refusal;
 use records::WriteAnswer;
+use script::input;
+use script::say;
 
 fn say_refusal(why: Refusal) {
     match why {
@@ -54,36 +54,15 @@ fn say_written(answer: WriteAnswer) {
     }
 }
 
-fn sevens() -> [u8; 100] {
-    [7; 100]
-}
-
-fn read_in(bytes: &[u8], n: usize) {
-    let length = input::first_bytes(n, bytes);
-    say_read(records::read(&bytes[..length]));
-}
-
 // read bytes: the record, or the refusal.
-pub(crate) fn read(args: &[u64; 100], n: usize) {
-    let mut bytes = sevens();
-    input::copy_bytes(args, 1, &mut bytes);
-    read_in(&bytes, n);
-}
-
-fn write_in(kind: u8, member: u8, number: u64, mask: u64, out: &mut [u8]) {
-    say_written(records::write(kind, member, number, mask, out));
-    say::bytes(out);
-}
-
-fn write_to(args: &[u64; 100], out: &mut [u8], room: usize) {
-    let kind = input::byte(args[1]);
-    let member = input::byte(args[2]);
-    let n = input::first_bytes(room, out);
-    write_in(kind, member, args[3], args[4], &mut out[..n]);
+pub(crate) fn read(bytes: &[u8]) {
+    say_read(records::read(bytes));
 }
 
 // write kind member number mask room: the refusal and all bytes of the output, each 7 before.
-pub(crate) fn write(args: &[u64; 100]) {
-    let mut out = sevens();
-    write_to(args, &mut out, args[5] as usize);
+pub(crate) fn write(args: &[u64; 100], out: &mut [u8]) {
+    let kind = input::byte(args[1]);
+    let member = input::byte(args[2]);
+    say_written(records::write(kind, member, args[3], args[4], out));
+    say::bytes(out);
 }

@@ -1,55 +1,54 @@
-// Calls on the sending and the receiving cluster: first pairs, resend pairs and the opening.
-use crate::bench::Side;
-use crate::input;
-use crate::say;
-use window::Window;
+// Calls on the sending and the receiving cluster: whether they are accepted, first pairs and resend pairs.
+use crate::words;
+use script::input;
+use script::say;
+use script::sides::Side;
+use script::sides::Sides;
+
+// pair q: the refusal.
+fn pair(ss: &[u32], s: Side, rs: &[u32], t: Side, q: u32) {
+    say::refusal(deal::pair_refusal(ss, s.u, s.r, rs, t.u, t.r, q));
+}
 
 // first q k: the refusal, the sender and the receiver.
-fn first_in(ss: &[u32], s: Side, rs: &[u32], t: Side, q: u32, k: u64) {
-    let n = input::first_words(s.members, ss);
-    let m = input::first_words(t.members, rs);
-    let a = deal::first_pair(&ss[..n], s.u, s.r, &rs[..m], t.u, t.r, q, k);
+fn first(ss: &[u32], s: Side, rs: &[u32], t: Side, q: u32, k: u64) {
+    let a = deal::first_pair(ss, s.u, s.r, rs, t.u, t.r, q, k);
     say::refusal(a.refusal);
     say::short(a.sender);
     say::short(a.receiver);
 }
 
-pub(crate) fn first(s: Side, t: Side, args: &[u64; 100]) {
-    let ss = s.shares;
-    let rs = t.shares;
-    first_in(&ss, s, &rs, t, input::short(args[1]), args[2]);
-}
-
 // resend q k number: the refusal, the sender, the receiver and the run.
-fn resend_in(ss: &[u32], s: Side, rs: &[u32], t: Side, q: u32, k: u64, number: u32) {
-    let n = input::first_words(s.members, ss);
-    let m = input::first_words(t.members, rs);
-    let a = resend::resend_pair(&ss[..n], s.u, s.r, &rs[..m], t.u, t.r, q, k, number);
+fn resend(ss: &[u32], s: Side, rs: &[u32], t: Side, q: u32, k: u64, number: u32) {
+    let a = resend::resend_pair(ss, s.u, s.r, rs, t.u, t.r, q, k, number);
     say::refusal(a.refusal);
     say::short(a.sender);
     say::short(a.receiver);
     say::number(a.run);
 }
 
-pub(crate) fn resend(s: Side, t: Side, args: &[u64; 100]) {
-    let ss = s.shares;
-    let rs = t.shares;
+fn called(ss: &[u32], s: Side, rs: &[u32], t: Side, word: usize, args: &[u64; 100]) {
     let q = input::short(args[1]);
-    let number = input::short(args[3]);
-    resend_in(&ss, s, &rs, t, q, args[2], number);
+    if word == words::PAIR {
+        pair(ss, s, rs, t, q);
+    } else if word == words::FIRST {
+        first(ss, s, rs, t, q, args[2]);
+    } else if word == words::RESEND {
+        resend(ss, s, rs, t, q, args[2], input::short(args[3]));
+    }
 }
 
-// open q: the refusal, and the window that is handed back.
-fn open_in(ss: &[u32], s: Side, rs: &[u32], t: Side, q: u32) -> Window {
+// The shares of the members alone.
+fn cut(ss: &[u32], s: Side, rs: &[u32], t: Side, word: usize, args: &[u64; 100]) {
     let n = input::first_words(s.members, ss);
     let m = input::first_words(t.members, rs);
-    let a = Window::open(&ss[..n], s.u, s.r, &rs[..m], t.u, t.r, q);
-    say::refusal(a.refusal);
-    a.window
+    called(&ss[..n], s, &rs[..m], t, word, args);
 }
 
-pub(crate) fn open(s: Side, t: Side, q: u32) -> Window {
+pub(crate) fn asked(sides: Sides, word: usize, args: &[u64; 100]) {
+    let s = sides.sending;
+    let t = sides.receiving;
     let ss = s.shares;
     let rs = t.shares;
-    open_in(&ss, s, &rs, t, q)
+    cut(&ss, s, &rs, t, word, args);
 }

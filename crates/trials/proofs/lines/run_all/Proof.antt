@@ -6,19 +6,22 @@ use Rattle.trials.proofs.lines.run_all.Statement.{statement}
 use Rattle.trials.proofs.lines.run_all.Tie as tie
 
 abbrev Inv-loop : tie.InvT-loop
-Inv-loop cases b₀ start₀ b start = start ≤ length cases
+Inv-loop cases s₀ start₀ s start = start ≤ length cases
 
 abbrev μ-loop : tie.MeasureT-loop
-μ-loop cases b₀ start₀ b start = length cases - start
+μ-loop cases s₀ start₀ s start = length cases - start
 
-empty-requires : tie.Need-empty-requires Inv-loop μ-loop
-empty-requires c κs = search needs
+no-sides-requires : tie.Need-no-sides-requires Inv-loop μ-loop
+no-sides-requires c κs = search needs
 
 loop-holds : tie.Need-loop-holds Inv-loop μ-loop
 loop-holds c = search needs
 
-line-end-requires : tie.Need-line-end-requires Inv-loop μ-loop
-line-end-requires c κs = search needs
+line-length-requires : tie.Need-line-length-requires Inv-loop μ-loop
+line-length-requires c κs = search needs
+
+add-end : tie.Need-add-end Inv-loop μ-loop
+add-end c = search needs
 
 sub-run-line : tie.Need-sub-run-line Inv-loop μ-loop
 sub-run-line c = search needs
@@ -53,9 +56,10 @@ run-all-spec =
     (tie.spec
     Inv-loop
     μ-loop
-    empty-requires
+    no-sides-requires
     loop-holds
-    line-end-requires
+    line-length-requires
+    add-end
     sub-run-line
     part-run-line-start
     part-run-line-end
