@@ -3,3 +3,4 @@ pub mod MaskLaws
 pub mod RunLaws
 pub mod HeldLaws
 pub mod SetLaws
+pub mod Unique

@@ -2,6 +2,7 @@
 // need few numbers.
 use crate::input;
 ghost use Prim.Native.Nat.{_<_, _≤_};
+ghost use lib.ListN.{length};
 
 // How many numbers a group has: how often, and a byte; or how often, and a record's kind and two numbers.
 fn width(is_raw: bool) -> usize
@@ -76,7 +77,9 @@ fn unit_of(is_raw: bool, i: usize) -> u64 {
 }
 
 // Fills the input from the groups, and answers how many bytes it has.
-pub fn fill(args: &[u64; 100], is_raw: bool, bytes: &mut [u8]) -> usize {
+pub fn fill(args: &[u64; 100], is_raw: bool, bytes: &mut [u8]) -> usize
+    ensures { λ r. ⌜ r ≤ length (now (bytes .entry)) ⌝ }
+{
     let mut i = 0;
     while i < bytes.len() {
         let at = group_of(args, is_raw, unit_of(is_raw, i));

@@ -1,7 +1,7 @@
 // A line's word and its numbers.
 ghost use mathlib.Core.Path.{_≡_};
 ghost use Prim.Native.Nat.{_-_, _≤_, min};
-ghost use lib.ListN.{getD};
+ghost use lib.ListN.{length, getD, replicate};
 ghost use Rattle.io.specs.Counts.{Counts};
 
 fn ten_times(x: u64) -> u64 {
@@ -34,12 +34,16 @@ fn one_if_space(byte: u8) -> usize
 }
 
 // Room for a line's numbers. Place 0 stays empty: the word stands there.
-pub fn no_numbers() -> [u64; 100] {
+pub fn no_numbers() -> [u64; 100]
+    ensures { λ r. ⌜ r ≡ replicate 100 0 ⌝ }
+{
     [0; 100]
 }
 
 // Puts the numbers after a line's word into places 1, 2, .. and answers how many there are.
-pub fn numbers(line: &[u8], numbers: &mut [u64]) -> usize {
+pub fn numbers(line: &[u8], numbers: &mut [u64]) -> usize
+    ensures { λ r. ⌜ r ≤ length (now (line .entry)) ⌝ }
+{
     let mut at = 0;
     let mut i = 0;
     while i < line.len() {
@@ -65,7 +69,9 @@ fn next_at(at: usize, byte: u8) -> usize {
 }
 
 // The place of a line's first word in a list of words, each with a space after it; how many there are where it is none of them.
-pub fn place_of(line: &[u8], words: &[u8]) -> usize {
+pub fn place_of(line: &[u8], words: &[u8]) -> usize
+    ensures { λ r. ⌜ r ≤ length (now (words .entry)) ⌝ }
+{
     let mut place = 0;
     let mut at = 0;
     let mut fits = true;
@@ -128,7 +134,9 @@ pub fn number_at(numbers: &[u64], i: usize) -> u64
 }
 
 // The numbers from a place on, as shares.
-pub fn copy_shares(numbers: &[u64], start: usize, shares: &mut [u32]) {
+pub fn copy_shares(numbers: &[u64], start: usize, shares: &mut [u32])
+    ensures { λ _. ⌜ length (now (shares .exit)) ≡ length (now (shares .entry)) ⌝ }
+{
     let mut i = 0;
     while i < shares.len() {
         shares[i] = short(number_at(numbers, std::num::wrapping_add_usize(start, i)));
@@ -136,7 +144,9 @@ pub fn copy_shares(numbers: &[u64], start: usize, shares: &mut [u32]) {
     }
 }
 
-pub fn copy_bytes(numbers: &[u64], start: usize, bytes: &mut [u8]) {
+pub fn copy_bytes(numbers: &[u64], start: usize, bytes: &mut [u8])
+    ensures { λ _. ⌜ length (now (bytes .exit)) ≡ length (now (bytes .entry)) ⌝ }
+{
     let mut i = 0;
     while i < bytes.len() {
         bytes[i] = byte(number_at(numbers, std::num::wrapping_add_usize(start, i)));

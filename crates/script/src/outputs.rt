@@ -17,7 +17,9 @@ pub fn written(out: &[u8]) -> usize
 }
 
 // How many bytes at its end were left alone.
-pub fn say_kept(out: &[u8]) {
+pub fn say_kept(out: &[u8])
+    ensures { λ _. ⊤ₛ }
+{
     let n = written(out);
     say::named(b"kept", (out.len() - n) as u64);
 }

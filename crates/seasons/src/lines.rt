@@ -7,6 +7,7 @@ use crate::words;
 use script::input;
 use script::lines::line_length;
 use script::say;
+use script::sides::side_named;
 use script::sides::sides_after;
 use window::Window;
 
@@ -19,7 +20,7 @@ fn bench_after(b: Bench, line: &[u8], args: &[u64; 100], n: usize) -> Bench {
     let word = words::word_of(line);
     windows::asked(b.window, word);
     members::asked(b.holdings, word);
-    let sides = sides_after(b.sides, line, args, n);
+    let sides = sides_after(b.sides, side_named(line), args, n);
     let kept = either(b.kept, b.window, word == words::KEEP);
     let before = either(b.window, b.kept, word == words::BACK);
     let window = windows::after(before, b.sides, word, args);

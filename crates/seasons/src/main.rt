@@ -3,8 +3,8 @@
 // ill formed. A case is a word and decimal numbers, one space between; a line that starts with any other word, as #, is a
 // remark. What is written after the colon, the call's refusal first, stands above the function that the word leads to.
 //
-// The expected lines were not taken from a run: they were worked out by an independent model of document 01, written from
-// the document alone, and the refusals by hand from its table and its orders. Cases are lines and not code, so that another
+// The expected lines were not taken from a run: they were worked out by a model in another language that follows document 01's
+// sentences, on sets and lists where the library has masks and columns, and the refusals by hand from its table and its orders. Cases are lines and not code, so that another
 // one costs no proof.
 mod bench;
 mod edits;

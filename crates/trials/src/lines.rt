@@ -12,6 +12,7 @@ use script::lines::line_length;
 use script::say;
 use script::sides::Sides;
 use script::sides::no_sides;
+use script::sides::side_named;
 use script::sides::sides_after;
 
 // Calls on numbers alone.
@@ -37,7 +38,7 @@ fn run_line(s: Sides, line: &[u8]) -> Sides {
     plans::asked(&args, word);
     number_case(word, &args);
     say::text(b"\n");
-    sides_after(s, line, &args, n)
+    sides_after(s, side_named(line), &args, n)
 }
 
 pub(crate) fn run_all(cases: &[u8]) {

@@ -3,8 +3,8 @@
 // space between; a line that starts with any other word, as #, is a remark. What is written after the colon, the call's refusal
 // first, stands above the function that the word leads to.
 //
-// The expected lines were not taken from a run: they were worked out by an independent model of document 01, written from
-// the document alone, and the refusals by hand from its table and its orders. The document does not name the small functions:
+// The expected lines were not taken from a run: they were worked out by a model in another language that follows document 01's
+// sentences, on sets and lists where the library has masks and columns, and the refusals by hand from its table and its orders. The document does not name the small functions:
 // what they are to answer is what stands above each of them, and it was worked out on sets of bits and of messages, not on
 // masks. Cases are lines and not code, so that another one costs no proof. Functions that ask something of their caller are not
 // here: a line could not be held to it.
