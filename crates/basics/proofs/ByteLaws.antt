@@ -1,15 +1,14 @@
 -- Numbers in bytes: bounds, both ways back, and the turns of the loops that read and write them. Assumes nothing.
-use mathlib.Core.Path.{_≡_, refl, ap, ap₂, sym, _∙_}
-use mathlib.Core.Bool.{Bool, true, false, _&&_}
-use mathlib.Core.List.{List, [], _∷_, _++_, append-nil, append-assoc}
+use mathlib.Core.Path.{_≡_, refl, ap, sym, _∙_}
+use mathlib.Core.Bool.{true, false, _&&_}
+use mathlib.Core.List.{List, [], _∷_, _++_, append-nil}
 use Prim.Native.Nat.{ℕ, zero, suc, _+_, _*_, _^_, _/_, _%_, _-_, _<_, _≤_, zero-le}
 use native.Mathlib.Numerals.{add-one}
 use native.Mathlib.Nat.{pow-suc, le-refl, div-div-eq-div-mul, div-one, mul-comm}
 use native.Mathlib.Omega.{arith}
 use lib.Dec.{lit<, eqb, ltb, eqb·suc-zero}
-use lib.ListN.{length, getD, take, drop, set, replicate, drop-of-length-le, length-append, length-drop, length-take, List·getD-eq-default}
+use lib.ListN.{length, getD, take, drop, set, replicate, drop-of-length-le, length-drop, length-take, List·getD-eq-default}
 use lib.Seq.{drop-cons, getD-drop, getD-take, set-at, append-snoc}
-use borrow.Author.Needs.{needs}
 use borrow.Author.Tests.{eq-eqb, ne-eqb, eqb-true, ltb-true, ltb-false}
 use borrow.Rule.Slice.PartMut.{mid-len}
 use mir.Val.{Fits}

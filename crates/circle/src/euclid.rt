@@ -1,6 +1,6 @@
 // The divisor of two totals, and their multiple.
 ghost use mathlib.Core.Path.{_≡_};
-ghost use Prim.Native.Nat.{_<_, _≤_};
+ghost use Prim.Native.Nat.{_≤_};
 ghost use Rattle.circle.specs.Divisor.{divisorOf, multipleOf};
 
 // Euclid's rule, each step on a smaller remainder.

@@ -2,10 +2,8 @@
 use mathlib.Core.Path.{_≡_, sym, _∙_}
 use mathlib.Core.Bool.{true}
 use mathlib.Core.List.{List, [], _∷_, _++_}
-use Prim.Native.Nat.{ℕ, _≤_}
-use native.Mathlib.Omega.{arith}
-use lib.Dec.{leb, lit<}
-use lib.ListN.{length, drop}
+use Prim.Native.Nat.{ℕ}
+use lib.Dec.{lit<}
 use Rattle.basics.specs.Checks.{_else_, firstFailing}
 use Rattle.basics.specs.Ranges.{isQuantum}
 use Rattle.basics.proofs.CheckLaws.{Numbered, checks-passed, checks-failed, checks-first, checks-later, first-passed}

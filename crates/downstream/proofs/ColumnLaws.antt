@@ -1,14 +1,13 @@
 -- Columns of the reports, and the members that lack a message. Assumes nothing.
-use mathlib.Core.Path.{_≡_, refl, ap, sym, _∙_}
-use mathlib.Core.Bool.{Bool, true, false, cond, not, _&&_, _||_}
+use mathlib.Core.Path.{_≡_, ap, sym, _∙_}
+use mathlib.Core.Bool.{Bool, true, false, cond, not}
 use mathlib.Core.List.{List, _++_, append-nil, map}
 use Prim.Native.Nat.{ℕ, _+_, _≤_, _<_}
 use native.Mathlib.Omega.{arith}
-use lib.Dec.{ltb}
 use lib.ListN.{length, getD, drop, set, replicate, drop-of-length-le, length-replicate, length-map}
-use Rattle.basics.specs.Sums.{allBelow, listBelow}
+use Rattle.basics.specs.Sums.{listBelow}
 use Rattle.basics.proofs.SumLaws.{list-at, list-turn}
-use Rattle.marks.specs.Masks.{markOf, isMarked, isSubset}
+use Rattle.marks.specs.Masks.{markOf, isSubset}
 use Rattle.marks.specs.Held.{holdsOf}
 use Rattle.marks.proofs.SetLaws.{marked-set}
 use Rattle.downstream.specs.declared.state.Report.{Report}

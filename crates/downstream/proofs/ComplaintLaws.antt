@@ -1,13 +1,11 @@
 -- Complaints, from what the code knows where it answers. Assumes nothing.
-use mathlib.Core.Path.{_≡_, refl, ap, sym, _∙_}
-use mathlib.Core.Bool.{Bool, true, false, cond, not, _&&_, _||_}
-use Prim.Native.Nat.{ℕ, _+_, _≤_, _<_}
-use native.Mathlib.Omega.{arith}
+use mathlib.Core.Path.{_≡_, sym, _∙_}
+use mathlib.Core.Bool.{Bool, true, false, _&&_, _||_}
+use Prim.Native.Nat.{ℕ, _+_}
 use lib.Dec.{ltb, eqb}
 use Rattle.marks.specs.Masks.{markOf, unmarkOf}
 use Rattle.marks.specs.Held.{holdsOf, highestOf}
-use Rattle.downstream.specs.declared.state.Entry.{Entry}
-use Rattle.downstream.specs.Complaints.{complains, complaintsAfter, complainedEntry}
+use Rattle.downstream.specs.Complaints.{complains, complaintsAfter}
 
 module _ (i c mask high : ℕ) (again : Bool) (p k bits r : ℕ) (held : Bool) (e : held ≡ holdsOf c mask k) where
   pub complaint-out : held ≡ true → r ≡ unmarkOf bits i → r ≡ complaintsAfter i c mask again p k bits

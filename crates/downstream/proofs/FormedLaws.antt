@@ -1,17 +1,15 @@
 -- Whether all that belongs to a receiving cluster is kept, from what the code knows where it answers. Assumes nothing.
-use mathlib.Core.Path.{_≡_, refl, ap, sym, _∙_}
-use mathlib.Core.Bool.{Bool, true, false, cond, not, _&&_, _||_}
+use mathlib.Core.Path.{_≡_, refl, sym, _∙_}
+use mathlib.Core.Bool.{Bool, true, false, not, _&&_}
 use mathlib.Core.List.{List}
-use Prim.Native.Nat.{ℕ, _+_, _-_, _%_, _≤_, _<_}
+use Prim.Native.Nat.{ℕ, _+_, _-_, _≤_, _<_}
 use native.Mathlib.Omega.{arith}
 use lib.Dec.{leb, ltb, eqb}
-use lib.ListN.{length, getD, take, length-take}
+use lib.ListN.{length, take, length-take}
 use borrow.Author.Tests.{le-leb, lt-leb, leb-true, eqb-true, not-true, not-false}
-use mir.Val.{Fits}
-use mir.Syntax.{w64}
 use borrow.Author.Needs.{needs}
 use Rattle.basics.specs.Ranges.{messageLimit}
-use Rattle.basics.proofs.BoolLaws.{and-left, and-right, told}
+use Rattle.basics.proofs.BoolLaws.{and-left, and-right}
 use Rattle.shares.specs.Cluster.{clusterRefusal}
 use Rattle.marks.specs.Masks.{isMarked}
 use Rattle.marks.specs.Held.{noneAbove}

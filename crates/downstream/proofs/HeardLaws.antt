@@ -1,17 +1,16 @@
 -- Complaint sets after a report: they still name only members that exist and do not hold the message. Assumes nothing.
-use mathlib.Core.Path.{_≡_, refl, ap, ap₂, sym, _∙_}
-use mathlib.Core.Bool.{Bool, true, false, cond, not, _&&_, _||_}
+use mathlib.Core.Path.{_≡_, refl, ap, sym, _∙_}
+use mathlib.Core.Bool.{Bool, true, false, not, _&&_, _||_}
 use mathlib.Core.List.{List}
 use mathlib.Core.Logic.{_⊎_, inl, inr}
-use Prim.Native.Nat.{ℕ, _+_, _-_, _≤_, _<_}
+use Prim.Native.Nat.{ℕ, _-_, _≤_, _<_}
 use native.Mathlib.Decide.{ℕ-discrete}
 use native.Mathlib.Omega.{arith}
 use lib.Dec.{ltb, eqb}
-use lib.ListN.{getD}
-use borrow.Author.Tests.{eq-eqb, ne-eqb, eqb-true, eqb-false, lt-ltb}
+use borrow.Author.Tests.{eq-eqb, ne-eqb, lt-ltb}
 use Rattle.basics.proofs.BoolLaws.{bool-cases, and-left, and-right, or-cases, or-right, no-both}
 use Rattle.basics.proofs.SumLaws.{all-at, all-of}
-use Rattle.marks.specs.Masks.{isMarked, markOf, unmarkOf, withMark, withoutMark}
+use Rattle.marks.specs.Masks.{isMarked, markOf, unmarkOf}
 use Rattle.marks.specs.Held.{holdsOf}
 use Rattle.marks.proofs.MaskLaws.{mark-is, unmark-is, marked-with, marked-without}
 use Rattle.downstream.specs.State.{heldBy}

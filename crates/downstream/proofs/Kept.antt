@@ -1,31 +1,30 @@
 -- An accepted report leaves the state well formed. Assumes nothing.
 use mathlib.Core.Path.{_≡_, refl, ap, ap₂, sym, _∙_}
-use mathlib.Core.Bool.{Bool, true, false, cond, not, _&&_, _||_}
+use mathlib.Core.Bool.{true, cond, not, _&&_, _||_}
 use mathlib.Core.List.{List}
-use mathlib.Core.Logic.{_⊎_, inl, inr}
+use mathlib.Core.Logic.{inl, inr}
 use Prim.Native.Nat.{ℕ, _+_, _-_, _%_, _≤_, _<_}
-use native.Mathlib.Decide.{decLt, decLe, ℕ-discrete}
+use native.Mathlib.Decide.{decLt, ℕ-discrete}
 use native.Mathlib.Omega.{arith}
-use lib.Dec.{leb, ltb, eqb}
+use lib.Dec.{leb, ltb}
 use lib.ListN.{length, getD, List·getD-eq-default}
 use borrow.Author.Tests.{le-leb, lt-leb, lt-ltb, le-ltb, leb-true, eq-eqb}
-use Rattle.basics.specs.Sums.{allBelow}
-use Rattle.basics.proofs.BoolLaws.{bool-cases, and-both, and-left, and-right}
+use Rattle.basics.proofs.BoolLaws.{bool-cases, and-left, and-right}
 use Rattle.basics.proofs.SumLaws.{all-at, all-of}
 use Rattle.marks.specs.Masks.{isMarked}
-use Rattle.marks.specs.Held.{holdsOf, noneAbove}
+use Rattle.marks.specs.Held.{holdsOf}
 use Rattle.marks.proofs.MaskLaws.{marked-none}
 use Rattle.marks.proofs.SetLaws.{marked-set}
 use Rattle.downstream.specs.declared.state.Report.{Report}
 use Rattle.downstream.specs.declared.state.Entry.{Entry}
 use Rattle.downstream.specs.declared.state.Downstream.{Downstream}
 use Rattle.downstream.specs.State.{noEntry, sharesOf, placeAfter, offsetAt, reportAt, numbersOf, masksOf, heldBy}
-use Rattle.downstream.specs.Formed.{spanKept, clusterKept, reportKept, reportsKept, complaintsKept, entryKept, entriesKept, downstreamKept}
+use Rattle.downstream.specs.Formed.{spanKept, reportKept, reportsKept, complaintsKept, entryKept, entriesKept, downstreamKept}
 use Rattle.downstream.specs.Complaints.{entriesAfter, isAgain, complainedEntry, reportsAfter, pointAfter, takenOf}
 use Rattle.downstream.specs.Verdicts.{dueAt, dueOf, raisedEntry, judgedOf, Judging}
 use Rattle.downstream.specs.Reports.{Accepting}
 use Rattle.downstream.proofs.ColumnLaws.{number-at, mask-at}
-use Rattle.downstream.proofs.FormedLaws.{kept-span, kept-cluster, kept-reports, kept-entries, span-limit, span-order, span-width, span-of}
+use Rattle.downstream.proofs.FormedLaws.{kept-span, kept-cluster, kept-reports, kept-entries, span-limit, span-width, span-of}
 use Rattle.downstream.proofs.PlaceLaws.{entries-at, entries-place, entries-length}
 use Rattle.downstream.proofs.HeardLaws.{heard-kept}
 use Rattle.downstream.proofs.JudgeLaws.{due-few}

@@ -1,7 +1,7 @@
 -- Entries by their messages: the 64 messages from p + 1 on have each a place of its own, and a step at some of them, one after another, is
 -- the step at each of their places. Assumes nothing.
-use mathlib.Core.Path.{_≡_, refl, ap, sym, _∙_}
-use mathlib.Core.Bool.{Bool, true, false, cond}
+use mathlib.Core.Path.{_≡_, ap, sym, _∙_}
+use mathlib.Core.Bool.{cond}
 use mathlib.Core.List.{List}
 use Prim.Native.Nat.{ℕ, _+_, _-_, _%_, _≤_, _<_}
 use native.Mathlib.Decide.{decLt}
@@ -10,7 +10,6 @@ use lib.Dec.{ltb}
 use lib.ListN.{length, getD, set, replicate, length-set, length-replicate, getD-replicate}
 use lib.Seq.{getD-set-same, getD-set-other}
 use borrow.Author.Tests.{lt-ltb, le-ltb}
-use Rattle.basics.specs.Sums.{listBelow}
 use Rattle.basics.proofs.SumLaws.{length-list, list-at, list-is}
 use Rattle.downstream.specs.declared.state.Entry.{Entry}
 use Rattle.downstream.specs.State.{noEntry, placeAfter, offsetAt}

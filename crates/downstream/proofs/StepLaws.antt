@@ -1,19 +1,16 @@
 -- The steps of an accepted report, from what the code knows where it answers. Assumes nothing.
-use mathlib.Core.Path.{_≡_, refl, ap, sym, _∙_}
-use mathlib.Core.Bool.{Bool, true, cond, _&&_}
+use mathlib.Core.Path.{_≡_, refl, ap, _∙_}
+use mathlib.Core.Bool.{cond}
 use mathlib.Core.List.{List}
-use Prim.Native.Nat.{ℕ, _+_, _-_, _≤_, _<_}
+use Prim.Native.Nat.{ℕ, _+_, _-_, _≤_}
 use native.Mathlib.Omega.{arith}
-use lib.Dec.{eqb}
-use lib.ListN.{length, getD}
+use lib.ListN.{getD}
 use Rattle.marks.specs.Masks.{isMarked, setBelow}
-use Rattle.marks.specs.Held.{highestOf}
-use Rattle.downstream.specs.declared.state.Report.{Report}
 use Rattle.downstream.specs.declared.state.Entry.{Entry}
 use Rattle.downstream.specs.declared.state.Downstream.{Downstream}
 use Rattle.downstream.specs.State.{noEntry, placeAfter, sharesOf, reportAt, numbersOf, masksOf, pointFrom}
 use Rattle.downstream.specs.Complaints.{entriesAfter, complainedEntry, isAgain, reportsAfter, pointAfter, takenOf, Taking}
-use Rattle.downstream.specs.Verdicts.{isDue, dueAt, dueOf, raisedEntry, judgedOf, Judging}
+use Rattle.downstream.specs.Verdicts.{isDue, dueOf, raisedEntry, judgedOf}
 
 -- ---- a report is taken
 module _ (d : Downstream) (s i c mask : ℕ) (t : Taking d s i c mask) (numbers : List ℕ) (p : ℕ) (en : numbers ≡ numbersOf (reportsAfter (d .reports) i c mask)) (ep : p ≡ pointFrom (d .cluster) numbers) where

@@ -5,7 +5,6 @@ use crate::state::Downstream;
 use crate::state::Entry;
 use crate::state::Report;
 ghost use mathlib.Core.Path.{_≡_};
-ghost use mathlib.Core.Bool.{Bool};
 ghost use Prim.Native.Nat.{_≤_, _<_};
 ghost use Rattle.marks.specs.Held.{highestOf};
 ghost use Rattle.downstream.specs.Complaints.{entriesAfter, complaintsAfter, complainedEntry, takenOf, Taking};

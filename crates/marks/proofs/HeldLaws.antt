@@ -1,15 +1,13 @@
 -- What is held: at most c, or marked; nothing above the highest; and the same after c has risen over a run of marks. Assumes nothing.
 use mathlib.Core.Path.{_≡_, refl, ap, sym, _∙_}
-use mathlib.Core.Bool.{Bool, true, false, _||_}
-use mathlib.Core.Logic.{_⊎_, inl, inr}
+use mathlib.Core.Bool.{Bool, true, false}
+use mathlib.Core.Logic.{inl, inr}
 use Prim.Native.Nat.{ℕ, zero, suc, _+_, _-_, _/_, _^_, _≤_, _<_}
 use native.Mathlib.Decide.{decLe}
 use native.Mathlib.Omega.{arith}
 use lib.Dec.{leb}
 use borrow.Author.Tests.{le-leb, lt-leb, leb-true}
-use mir.Val.{Fits}
-use mir.Syntax.{w64}
-use Rattle.basics.proofs.BoolLaws.{bool-cases, or-cases, or-right, no-both, leb-same}
+use Rattle.basics.proofs.BoolLaws.{bool-cases, no-both, leb-same}
 use Rattle.marks.specs.Masks.{isMarked, runOf, reachOf}
 use Rattle.marks.specs.Held.{holdsOf, highestOf, noneAbove}
 use Rattle.marks.proofs.MaskLaws.{marked-past}

@@ -1,13 +1,13 @@
 -- Bits of a mask: which are marked after marking, unmarking and moving down. By induction on the bit, a mask taken as its lowest bit and
 -- the rest. Assumes nothing.
 use mathlib.Core.Path.{_≡_, refl, ap, sym, _∙_}
-use mathlib.Core.Bool.{Bool, true, false, cond, not, _&&_, _||_}
-use Prim.Native.Nat.{ℕ, zero, suc, _+_, _-_, _*_, _/_, _%_, _^_, _≤_, _<_, max, min}
-use native.Mathlib.Nat.{pow-suc, two-pow-succ, one-mul, div-eq-of-lt, div-one, lt-of-lt-of-le, mod-eq-of-lt}
+use mathlib.Core.Bool.{true, false, not, _&&_, _||_}
+use Prim.Native.Nat.{ℕ, zero, suc, _+_, _-_, _*_, _/_, _%_, _^_, _≤_, _<_}
+use native.Mathlib.Nat.{two-pow-succ, one-mul, div-eq-of-lt, div-one, lt-of-lt-of-le, mod-eq-of-lt}
 use native.Mathlib.Numerals.{one-add}
 use native.Mathlib.Omega.{arith}
 use lib.Bits.{bitOr, bitAnd, or-step, and-step, or-zero-r, and-mask}
-use lib.Dec.{eqb, ltb, eqb·suc-suc, eqb·zero-suc, eqb·suc-zero, lit<}
+use lib.Dec.{eqb, eqb·suc-suc, eqb·zero-suc, eqb·suc-zero, lit<}
 use lib.Pow.{shr-shr, shl-exact, pow-mono, pow-pos, pow-lt}
 use borrow.Author.Tests.{eq-eqb, ne-eqb, lt-ltb, le-ltb, eqb-true, eqb-false}
 use mir.Val.{Fits}

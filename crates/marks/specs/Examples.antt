@@ -1,9 +1,8 @@
 -- Small worked examples of masks, by computation. Assumes nothing.
 use mathlib.Core.Path.{_≡_, refl}
 use mathlib.Core.Bool.{true, false}
-use Prim.Native.Nat.{ℕ}
 use Rattle.marks.specs.Masks.{isMarked, withMark, withoutMark, runIn, runOf, reachIn, reachOf}
-use Rattle.marks.specs.Held.{holdsOf, highestOf, noneAbove}
+use Rattle.marks.specs.Held.{holdsOf, highestOf}
 
 -- Bit b speaks of message c + 1 + b: with c = 3 and bits 1 and 2 marked, messages 5 and 6 are held and 4 is not
 five-is-held : holdsOf 3 6 5 ≡ true

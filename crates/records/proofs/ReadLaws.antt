@@ -1,17 +1,16 @@
 -- What reading tells in each case, from what the code knows where it answers. Assumes nothing.
-use mathlib.Core.Path.{_≡_, refl, ap, ap₂, sym, _∙_}
+use mathlib.Core.Path.{_≡_, refl, ap₂, sym, _∙_}
 use mathlib.Core.Bool.{Bool, true, false, _&&_}
-use mathlib.Core.List.{List, [], _∷_}
+use mathlib.Core.List.{List, _∷_}
 use Prim.Native.Nat.{ℕ, _-_, _<_, _≤_}
 use native.Mathlib.Omega.{arith}
-use lib.Dec.{eqb}
 use lib.ListN.{length, getD, drop, replicate, length-drop}
 use lib.Seq.{drop-cons, take-all}
 use borrow.Author.Needs.{needs}
 use borrow.Author.Tests.{eq-eqb, ne-eqb, le-leb, lt-leb}
 use Rattle.basics.specs.Bytes.{leOf, allZero, part}
 use Rattle.basics.specs.Checks.{firstFailing}
-use Rattle.basics.proofs.BoolLaws.{and-left, and-right}
+use Rattle.basics.proofs.BoolLaws.{and-right}
 use Rattle.basics.proofs.ByteLaws.{Bytes, part-zeros, zero-number}
 use Rattle.records.specs.ByKind.{isPrivate, isReadable, zerosKept}
 use Rattle.records.specs.Answers.{accepted, told, numberOf, isProper}

@@ -1,16 +1,16 @@
 -- Demand 3: any two accepted clusters, an allowed quantum and a message number, and any choice of failed members whose shares in each
 -- cluster total at most that cluster's u. Assumes nothing.
-use mathlib.Core.Path.{_≡_, refl, ap, ap₂, sym, _∙_}
-use mathlib.Core.Bool.{Bool, true, false, _&&_}
-use mathlib.Core.List.{List, [], _∷_, _++_}
-use mathlib.Core.Logic.{_⊎_, inl, inr}
+use mathlib.Core.Path.{_≡_, refl, sym}
+use mathlib.Core.Bool.{Bool, true}
+use mathlib.Core.List.{List, [], _∷_}
+use mathlib.Core.Logic.{_⊎_}
 use Prim.Native.Nat.{ℕ, _+_, _-_, _≤_, _<_}
 use native.Mathlib.Omega.{arith}
 use lib.Dec.{leb}
 use lib.ListN.{length}
-use borrow.Author.Tests.{le-leb, eq-eqb}
+use borrow.Author.Tests.{le-leb}
 use Rattle.basics.specs.Sums.{sumBelow}
-use Rattle.basics.specs.Checks.{_else_, firstFailing}
+use Rattle.basics.specs.Checks.{_else_}
 use Rattle.basics.specs.Ranges.{isMessage, isResend}
 use Rattle.basics.proofs.CheckLaws.{passes, none-fails}
 use Rattle.basics.proofs.BoolLaws.{and-both}
@@ -23,8 +23,8 @@ use Rattle.deal.proofs.DealIsWhole.{sender-is-a-member}
 use Rattle.circle.specs.Circle as circle
 use Rattle.circle.specs.FirstGood.{FirstGood}
 use Rattle.circle.proofs.FirstGood.{first-good}
-use Rattle.resend.specs.Resends.{senderOf, receiverOf, runOf, numberChecks, resendRefusal, resendAt, resendPairOf}
-use Rattle.resend.specs.Promise.{Asked, resend, bound, FirstUnfailed}
+use Rattle.resend.specs.Resends.{senderOf, receiverOf, runOf, resendRefusal, resendAt, resendPairOf}
+use Rattle.resend.specs.Promise.{Asked, resend, FirstUnfailed}
 use Rattle.resend.proofs.ResendLaws.{resend-judged}
 
 -- the clusters and the quantum are accepted, and the message number is in its range

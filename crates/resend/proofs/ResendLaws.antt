@@ -1,16 +1,15 @@
 -- Resend pairs: their judgement, and the answer from what the code knows where it answers. Assumes nothing.
 use mathlib.Core.Path.{_≡_, refl, ap, sym, _∙_}
 use mathlib.Core.Bool.{true}
-use mathlib.Core.List.{List, [], _∷_, _++_}
+use mathlib.Core.List.{List, [], _∷_}
 use Prim.Native.Nat.{ℕ, _-_, _%_, _≤_, _<_}
-use native.Mathlib.Omega.{arith}
 use lib.Dec.{leb, lit<}
 use lib.ListN.{length}
 use borrow.Author.Needs.{needs}
 use mir.Val.{Fits}
 use mir.Syntax.{w32}
 use borrow.Author.Tests.{eq-eqb, ne-eqb, leb-true}
-use Rattle.basics.specs.Checks.{Check, _else_, firstFailing}
+use Rattle.basics.specs.Checks.{_else_, firstFailing}
 use Rattle.basics.specs.Ranges.{isMessage, isResend}
 use Rattle.basics.proofs.BoolLaws.{and-left}
 use Rattle.basics.proofs.CheckLaws.{checks, checks-passed, checks-failed, checks-first, checks-later, first-passed, later-passed}

@@ -1,15 +1,13 @@
 -- What an accepted cluster is, from the answer 0 and back, and the sizes that follow. Assumes nothing.
-use mathlib.Core.Path.{_≡_, refl, ap, sym, _∙_}
-use mathlib.Core.Bool.{Bool, true, false, _&&_}
-use mathlib.Core.List.{List, [], _∷_, _++_}
+use mathlib.Core.Path.{_≡_}
+use mathlib.Core.Bool.{true, false, _&&_}
+use mathlib.Core.List.{List}
 use Prim.Native.Nat.{ℕ, _+_, _*_, _≤_, _<_}
 use native.Mathlib.Omega.{arith}
 use lib.Dec.{leb, lit<}
 use lib.ListN.{length, getD}
 use borrow.Author.Tests.{le-leb, lt-leb, leb-true}
-use borrow.Author.Needs.{needs}
-use Rattle.basics.specs.Sums.{allBelow}
-use Rattle.basics.specs.Checks.{Check, _else_, firstFailing}
+use Rattle.basics.specs.Checks.{firstFailing}
 use Rattle.basics.proofs.BoolLaws.{and-both, and-left, and-right, and-not-left, and-not-right}
 use Rattle.basics.proofs.SumLaws.{all-at, all-of, sum-bound}
 use Rattle.basics.proofs.CheckLaws.{first-passed, later-passed, Numbered, checks}

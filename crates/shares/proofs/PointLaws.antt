@@ -1,6 +1,6 @@
 -- The point: it is reached, nothing larger is, it grows with the values, and it is found among the values alone. Assumes nothing.
-use mathlib.Core.Path.{_≡_, refl, ap, sym, _∙_}
-use mathlib.Core.Bool.{Bool, true, false, cond, _&&_}
+use mathlib.Core.Path.{_≡_, refl, ap, _∙_}
+use mathlib.Core.Bool.{Bool, true, cond, _&&_}
 use mathlib.Core.List.{List}
 use mathlib.Core.Logic.{_⊎_, inl, inr}
 use Prim.Native.Nat.{ℕ, zero, suc, _+_, _-_, _≤_, _<_, max, zero-le}
@@ -9,11 +9,9 @@ use native.Mathlib.Numerals.{add-one}
 use native.Mathlib.Omega.{arith}
 use lib.Dec.{leb, ltb}
 use lib.ListN.{length, getD}
-use borrow.Author.Needs.{needs}
 use borrow.Author.Tests.{le-leb, lt-leb, leb-true, lt-ltb, le-ltb}
-use Rattle.basics.specs.Sums.{sumBelow, highestBelow}
-use Rattle.basics.specs.Largest.{largest}
-use Rattle.basics.proofs.BoolLaws.{bool-cases, and-right, leb-same, no-both}
+use Rattle.basics.specs.Sums.{highestBelow}
+use Rattle.basics.proofs.BoolLaws.{bool-cases, and-right, leb-same}
 use Rattle.basics.proofs.SumLaws.{sum-zero, highest-at, highest-le}
 use Rattle.basics.proofs.LargestLaws.{largest-le, largest-passes, largest-above, largest-unique}
 use Rattle.shares.specs.Shares.{shareOf}

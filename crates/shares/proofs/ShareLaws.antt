@@ -1,17 +1,16 @@
 -- Shares of sets of members, proved once over the number of members: a larger set has no smaller share, disjoint sets add up, and a set
 -- with more share than can fail has a member that does not. Assumes nothing.
 use mathlib.Core.Path.{_≡_, refl, ap, sym, _∙_}
-use mathlib.Core.Bool.{Bool, true, false, cond, not, _&&_, _||_}
+use mathlib.Core.Bool.{Bool, true, false, cond, not, _||_}
 use mathlib.Core.List.{List, [], _∷_}
 use mathlib.Core.Logic.{_⊎_, inl, inr}
-use Prim.Native.Nat.{ℕ, zero, suc, _+_, _*_, _≤_, _<_, zero-le}
-use native.Mathlib.Decide.{decLe, decLt}
+use Prim.Native.Nat.{ℕ, zero, suc, _+_, _≤_, _<_, zero-le}
 use native.Mathlib.Omega.{arith}
-use lib.ListN.{length, getD, take, length-take}
+use lib.ListN.{length, getD, take}
 use lib.Seq.{getD-take, length-take-le}
 use Rattle.basics.specs.Sums.{sumBelow}
-use Rattle.basics.proofs.BoolLaws.{bool-cases, no-both}
-use Rattle.basics.proofs.SumLaws.{sum-cong, sum-mono, sum-add, sum-front, sum-bound, sum-part}
+use Rattle.basics.proofs.BoolLaws.{bool-cases}
+use Rattle.basics.proofs.SumLaws.{sum-cong, sum-mono, sum-add, sum-front, sum-part}
 use Rattle.shares.specs.Shares.{totalOf, shareOf}
 
 -- ---- how totals and shares go along the list

@@ -1,5 +1,4 @@
 -- The point that members' values reach by share: the collecting point is one of these. Assumes nothing.
-use mathlib.Core.Bool.{Bool}
 use mathlib.Core.List.{List}
 use Prim.Native.Nat.{ℕ}
 use lib.Dec.{leb}

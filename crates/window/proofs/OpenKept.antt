@@ -1,15 +1,14 @@
 -- An accepted opening gives a well formed state. Assumes nothing.
-use mathlib.Core.Path.{_≡_, refl, ap, ap₂, sym, _∙_}
-use mathlib.Core.Bool.{Bool, true, false, cond, not, _&&_, _||_}
+use mathlib.Core.Path.{_≡_, refl, ap, sym, _∙_}
+use mathlib.Core.Bool.{true, _||_}
 use mathlib.Core.List.{List, _++_}
-use Prim.Native.Nat.{ℕ, zero, suc, _+_, _-_, _≤_, _<_}
+use Prim.Native.Nat.{ℕ, _+_, _-_, _≤_, _<_}
 use native.Mathlib.Decide.{decLt}
 use native.Mathlib.Omega.{arith}
-use lib.Dec.{leb, ltb, eqb}
-use lib.ListN.{length, getD, take, replicate, getD-replicate, List·getD-eq-default}
+use lib.Dec.{ltb, eqb}
+use lib.ListN.{length, getD, replicate, getD-replicate, List·getD-eq-default}
 use lib.Seq.{take-at, getD-append-add}
-use borrow.Author.Tests.{le-leb, lt-leb, lt-ltb, le-ltb, eq-eqb}
-use Rattle.basics.specs.Sums.{allBelow}
+use borrow.Author.Tests.{le-leb, lt-leb, lt-ltb, eq-eqb}
 use Rattle.basics.proofs.SumLaws.{all-of, length-list}
 use Rattle.basics.proofs.BoolLaws.{or-left, or-right}
 use Rattle.shares.specs.Cluster.{clusterRefusal, Accepted}
@@ -22,7 +21,7 @@ use Rattle.downstream.specs.declared.state.Report.{Report}
 use Rattle.downstream.specs.State.{noReport, noEntry, sharesOf, placeAfter, reportAt, numbersOf, masksOf, pointFrom}
 use Rattle.downstream.specs.Formed.{placesZero, clusterKept, reportKept, reportsKept, entryKept, entriesKept, downstreamKept}
 use Rattle.window.specs.Formed.{wellFormed}
-use Rattle.window.specs.Opening.{clusterFrom, downstreamFrom, windowFrom, openOf}
+use Rattle.window.specs.Opening.{clusterFrom, downstreamFrom, openOf}
 use Rattle.downstream.proofs.ColumnLaws.{number-at}
 use Rattle.downstream.proofs.FormedLaws.{span-of}
 

@@ -1,11 +1,9 @@
 -- Opening, from what the code knows where it answers. Assumes nothing.
 use mathlib.Core.Path.{_≡_, refl, ap, ap₂, sym, _∙_}
-use mathlib.Core.Bool.{Bool, true, cond}
-use mathlib.Core.List.{List, [], _∷_, _++_}
+use mathlib.Core.List.{List, _++_}
 use Prim.Native.Nat.{ℕ, zero, suc, _+_, _-_, _≤_, _<_}
 use native.Mathlib.Omega.{arith}
-use lib.ListN.{length, getD, set, take, drop, replicate, length-append, length-replicate}
-use lib.Seq.{take-at, drop-nil}
+use lib.ListN.{length, getD, set, drop, replicate}
 use borrow.Author.Tests.{eq-eqb, ne-eqb}
 use mir.Val.{Fits}
 use mir.Syntax.{w32}

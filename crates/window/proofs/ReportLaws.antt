@@ -1,16 +1,13 @@
 -- The report call, from what the code knows where it answers. Assumes nothing.
-use mathlib.Core.Path.{_≡_, refl, ap, ap₂, sym, _∙_}
-use mathlib.Core.Bool.{Bool, true, cond}
+use mathlib.Core.Path.{_≡_, refl, ap, sym, _∙_}
+use mathlib.Core.Bool.{true}
 use mathlib.Core.List.{List, _++_}
-use Prim.Native.Nat.{ℕ, _≤_, _<_}
-use native.Mathlib.Omega.{arith}
-use lib.Dec.{eqb}
+use Prim.Native.Nat.{ℕ, _≤_}
 use lib.ListN.{length, drop}
 use borrow.Author.Tests.{eq-eqb, ne-eqb}
 use Rattle.shares.specs.Cluster.{Accepted}
 use Rattle.shares.proofs.ClusterLaws as clusters
 use Rattle.hamilton.proofs.JudgeLaws.{dealable}
-use Rattle.circle.specs.Positions.{Sized}
 use Rattle.circle.proofs.CircleLaws.{sized}
 use Rattle.downstream.specs.declared.state.Cluster.{Cluster}
 use Rattle.downstream.specs.declared.state.Downstream.{Downstream}

@@ -1,13 +1,11 @@
 -- Any sequence of calls: the state stays well formed, a refused call changes nothing, and the collecting point never falls.
 -- Assumes nothing.
-use mathlib.Core.Path.{_≡_, refl, ap, sym, _∙_}
-use mathlib.Core.Bool.{Bool, true, false, cond, not, _&&_}
+use mathlib.Core.Path.{_≡_, _∙_}
+use mathlib.Core.Bool.{true}
 use mathlib.Core.List.{List, [], _∷_}
-use mathlib.Core.Logic.{_⊎_, inl, inr}
-use Prim.Native.Nat.{ℕ, _+_, _-_, _*_, _≤_, _<_}
+use Prim.Native.Nat.{ℕ, _-_, _≤_}
 use native.Mathlib.Omega.{arith}
 use native.Mathlib.Decide.{ℕ-discrete}
-use lib.Dec.{eqb}
 use lib.ListN.{length, length-set}
 use borrow.Author.Tests.{eq-eqb, ne-eqb}
 use Rattle.deal.specs.Pairs.{pairRefusal}
@@ -19,7 +17,7 @@ use Rattle.downstream.specs.Complaints.{takenOf}
 use Rattle.downstream.specs.Verdicts.{judgedOf}
 use Rattle.window.specs.Reporting.{reportRefusal}
 use Rattle.window.specs.Answers.{stepOf, withDownstream, reportOf}
-use Rattle.window.specs.Season.{Call, sends, reports, Answer, answerOf, nextOf, afterAll}
+use Rattle.window.specs.Season.{Call, sends, reports, nextOf, afterAll}
 use Rattle.window.proofs.FormedLaws.{formed-sending, formed-quantum}
 use Rattle.downstream.proofs.Accepted.{point-up}
 use Rattle.downstream.proofs.Kept.{judged-formed}

@@ -1,5 +1,5 @@
 -- Opening a window for two clusters and a quantum: 1, 2, 3 of the sending cluster, then of the receiving, 4. Assumes nothing.
-use mathlib.Core.Bool.{Bool, cond}
+use mathlib.Core.Bool.{cond}
 use mathlib.Core.List.{List, _++_}
 use Prim.Native.Nat.{ℕ, _-_}
 use lib.Dec.{eqb}

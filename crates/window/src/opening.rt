@@ -8,7 +8,7 @@ ghost use mathlib.Core.Path.{_≡_};
 ghost use mathlib.Core.List.{_++_};
 ghost use Prim.Native.Nat.{_-_, _≤_};
 ghost use lib.ListN.{length, replicate};
-ghost use Rattle.window.specs.Opening.{clusterFrom, windowFrom, noCluster, noWindow, openOf};
+ghost use Rattle.window.specs.Opening.{clusterFrom, windowFrom, noWindow, openOf};
 
 // The number of the refusal, 0 for none, and the state: of zeros where the opening is refused.
 pub struct OpenAnswer {

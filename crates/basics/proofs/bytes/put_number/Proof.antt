@@ -2,7 +2,7 @@
 use Prim.Native.Nat.{_≤_, _-_, _/_, _^_}
 use mathlib.Core.Path.{_≡_}
 use mathlib.Core.List.{_++_}
-use lib.ListN.{length, drop, length-set}
+use lib.ListN.{length, drop}
 use Rattle.basics.specs.Bytes.{leBytes}
 use Rattle.basics.proofs.ByteLaws.{put-start, rest-start, rest-turn, put-turn, put-done}
 use borrow.Author.Needs.{needs}

@@ -4,9 +4,9 @@ use Rattle.downstream.proofs.ColumnLaws.{column-turn, column-done}
 use Prim.Native.Nat.{_≤_, _-_}
 use mathlib.Core.Path.{_≡_, refl}
 use mathlib.Core.List.{_++_}
-use lib.ListN.{length, drop, replicate, length-set}
+use lib.ListN.{length, drop, replicate}
 use Rattle.basics.specs.Sums.{listBelow}
-use Rattle.basics.proofs.SumLaws.{list-start, list-turn}
+use Rattle.basics.proofs.SumLaws.{list-start}
 use Rattle.downstream.specs.State.{reportAt, numbersOf}
 use Rattle.downstream.proofs.ColumnLaws.{column-done}
 use borrow.Author.Needs.{needs}

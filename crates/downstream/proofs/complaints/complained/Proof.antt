@@ -1,5 +1,4 @@
 -- Only the set changes.
-use Rattle.downstream.specs.Complaints.{complainedEntry}
 use borrow.Author.Needs.{needs}
 use Rattle.downstream.proofs.complaints.complained.Statement.{statement}
 use Rattle.downstream.proofs.complaints.complained.Tie as tie

@@ -1,7 +1,6 @@
 -- The invariant: the entries of the o messages after p have had their step, and every other is empty.
 use Prim.Native.Nat.{_≤_, _-_}
 use mathlib.Core.Path.{_≡_}
-use lib.ListN.{length}
 use Rattle.marks.specs.Held.{highestOf}
 use Rattle.downstream.specs.Complaints.{complainedEntry, entriesAfter}
 use Rattle.downstream.proofs.PlaceLaws.{entries-start, entries-turn, entries-done}

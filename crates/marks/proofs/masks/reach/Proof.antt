@@ -1,5 +1,5 @@
 -- What the leading zeros leave of the 64 bits is the reach.
-use Rattle.marks.proofs.RunLaws.{reach-told, reach-le}
+use Rattle.marks.proofs.RunLaws.{reach-told}
 use lib.Count.{leading-le}
 use borrow.Author.Needs.{needs}
 use Rattle.marks.proofs.masks.reach.Statement.{statement}

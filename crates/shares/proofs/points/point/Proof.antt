@@ -3,7 +3,7 @@ use Prim.Native.Nat.{_≤_, _-_}
 use mathlib.Core.Path.{_≡_}
 use lib.Dec.{leb}
 use lib.ListN.{length, getD}
-use Rattle.shares.specs.Point.{reachedOf, pointOf}
+use Rattle.shares.specs.Point.{reachedOf}
 use Rattle.shares.proofs.PointLaws.{bestOf, best-start, best-turn, point-done}
 use borrow.Author.Needs.{needs}
 use Rattle.shares.proofs.points.point.Statement.{statement}

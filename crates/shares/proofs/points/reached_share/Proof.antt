@@ -1,6 +1,5 @@
 -- The branch is the one of the definition.
 use Rattle.shares.proofs.PointLaws.{share-reached, share-not-reached}
-use Rattle.basics.proofs.BoolLaws.{branches}
 use borrow.Author.Needs.{needs}
 use Rattle.shares.proofs.points.reached_share.Statement.{statement}
 use Rattle.shares.proofs.points.reached_share.Tie as tie

@@ -1,6 +1,6 @@
 -- The invariant: the verdicts on the first o messages stand in front, and everything behind them is as it was.
 use Prim.Native.Nat.{ℕ, _≤_, _-_, _*_}
-use mathlib.Core.Path.{_≡_, refl}
+use mathlib.Core.Path.{_≡_}
 use mathlib.Core.List.{_++_}
 use lib.ListN.{length, drop, getD}
 use Rattle.resend.specs.Resends.{Ready}

@@ -6,7 +6,6 @@ use mathlib.Core.List.{_++_}
 use lib.ListN.{length, drop, getD, replicate}
 use Rattle.basics.specs.Sums.{listBelow}
 use Rattle.basics.proofs.SumLaws.{list-start}
-use Rattle.downstream.proofs.ColumnLaws.{column-turn}
 use Rattle.window.proofs.OpenLaws.{places-done}
 use borrow.Author.Needs.{needs}
 use Rattle.window.proofs.opening.places.Statement.{statement}
