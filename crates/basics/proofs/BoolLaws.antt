@@ -56,14 +56,6 @@ pub or-cases : (a b : Bool) → (a || b) ≡ true → (a ≡ true) ⊎ (b ≡ tr
 or-cases true b p = inl refl
 or-cases false b p = inr p
 
-pub or-false-left : (a b : Bool) → (a || b) ≡ false → a ≡ false
-or-false-left true b p = p
-or-false-left false b p = refl
-
-pub or-false-right : (a b : Bool) → (a || b) ≡ false → b ≡ false
-or-false-right true b p = absurd (true≢false p)
-or-false-right false b p = p
-
 pub not-of-true : {a : Bool} → a ≡ true → not a ≡ false
 not-of-true p = simp p
 

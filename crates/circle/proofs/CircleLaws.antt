@@ -1,5 +1,5 @@
 -- The circle of two clusters: both layouts fill it, its numbers fit 64 bits, and an accepted cluster has what it needs. Assumes nothing.
-use mathlib.Core.Path.{_≡_, sym, _∙_}
+use mathlib.Core.Path.{_≡_, _∙_}
 use mathlib.Core.Logic.{⊎-elim}
 use mathlib.Core.List.{List}
 use Prim.Native.Nat.{ℕ, _*_, _/_, _≤_, _<_}
@@ -7,8 +7,8 @@ use native.Mathlib.Nat.{div-mul-cancel, eq-zero-or-pos, mul-pos}
 use native.Mathlib.Omega.{arith}
 use lib.ListN.{length, getD}
 use Rattle.shares.specs.Shares.{totalOf}
-use Rattle.shares.specs.Cluster.{Accepted, clusterRefusal}
-use Rattle.shares.proofs.ClusterLaws.{accepts, total-small}
+use Rattle.shares.specs.Cluster.{Accepted}
+use Rattle.shares.proofs.ClusterLaws.{total-small}
 use Rattle.circle.specs.Divisor.{multipleOf}
 use Rattle.circle.specs.Stretches.{scaled}
 use Rattle.circle.specs.Circle.{circleUnits, factorOf, sendLayout, receiveLayout}
@@ -25,10 +25,6 @@ sized s u r a =
       some-total = omega (arith, a .enough);
       small-total = total-small s u r a;
     }
-
--- the same from the answer of the cluster's check
-pub sized-told : (s : List ℕ) (u r n : ℕ) → n ≡ clusterRefusal s u r → n ≡ 0 → Sized s
-sized-told s u r n e z = sized s u r (accepts s u r (sym e ∙ z))
 
 -- ---- the scale factor times the total is L
 module _ (ss rs : List ℕ) where

@@ -69,15 +69,3 @@ module _ (step : ℕ → Entry → Entry) (p : ℕ) (entries : List Entry) where
 
   pub entries-done : (o n : ℕ) {l : List Entry} → l ≡ entriesAfter step p o entries → o ≤ n → n ≤ o → l ≡ entriesAfter step p n entries
   entries-done o n {l} e a b = let z : o ≡ n = omega arith in rw z at e
-
--- the same step, as far as its messages go
-pub entries-same : (f g : ℕ → Entry → Entry) (p n : ℕ) (entries : List Entry) → ((o : ℕ) → o < n → o < 64 → (e : Entry) → f o e ≡ g o e) → entriesAfter f p n entries ≡ entriesAfter g p n entries
-unfolding entriesAfter
-entries-same f g p n entries h = list-is (entryAt g p entries n) noEntry 64 (entriesAfter f p n entries) (entries-length f p entries n)
-    (λ j l. entries-place f p entries n j l ∙ same j l)
-  where
-    same : (j : ℕ) → j < 64 → entryAt f p entries n j ≡ entryAt g p entries n j
-    same j l = elim (decLt (offsetAt p j) n) [
-      | yes a ↦ simp (lt-ltb (offsetAt p j) n a) (h (offsetAt p j) a (omega arith) (getD entries j noEntry))
-      | no a ↦ simp (le-ltb (offsetAt p j) n (omega arith))
-    ]

@@ -6,7 +6,7 @@ use native.Mathlib.Nat.{pow-suc}
 use native.Mathlib.Numerals.{add-one}
 use native.Mathlib.Omega.{arith}
 use lib.Dec.{ltb}
-use lib.ListN.{length, take, drop, set, getD, length-append, length-take, length-drop}
+use lib.ListN.{length, take, drop, set, getD, length-append}
 use lib.Seq.{drop-cons, set-at, set-split, length-take-le, take-at, drop-append-add, drop-drop, take-all, paste, paste-zero, paste-suc}
 use mir.Val.{Fits}
 use mir.Syntax.{w64}
@@ -53,10 +53,6 @@ unfolding digitsOf
 digits-more x f h = one-more 19 x h ∙ ap (λ (l : List ℕ). l ++ ((48 + x % 10) ∷ [])) (sym (enough 18 (x / 10) (omega (arith, f .fits))))
 
 -- ---- text in an output
-pub length-put : (at : ℕ) (bs o : List ℕ) → at + length bs ≤ length o → length (put at bs o) ≡ length o
-unfolding put
-length-put at bs o h = simp (length-append, length-take, length-drop) (omega arith)
-
 -- one byte
 put-one : (at : ℕ) (o : List ℕ) (v : ℕ) → at < length o → set o at v ≡ put at (v ∷ []) o
 unfolding put

@@ -112,15 +112,6 @@ with-lt zero m b h l = absurd (omega arith)
 with-lt (suc n) m zero h l = rw with-low (omega (arith, two-pow-succ n))
 with-lt (suc n) m (suc b) h l = rw with-step (omega (arith, two-pow-succ n, with-lt n (m / 2) b (omega (arith, two-pow-succ n)) (omega arith)))
 
-pub without-le : (m b : ℕ) → withoutMark m b ≤ m
-unfolding withoutMark
-without-le m b = either (withoutMark m b ≤ m) (isMarked m b) (λ e. simp e (omega arith)) (λ e. simp e (omega arith))
-
--- marking what is marked changes nothing
-pub with-again : (m b : ℕ) → isMarked m b ≡ true → withMark m b ≡ m
-unfolding withMark
-with-again m b e = simp e
-
 -- ---- the machine's words for it
 or-mark : (m b : ℕ) → bitOr m (2 ^ b) ≡ withMark m b
 or-mark m zero = or-step m 1 ∙ rw (with-low, or-zero-r) (omega arith)

@@ -50,10 +50,6 @@ run-in-end (suc n) m l = either (isMarked m (runIn (suc n) m) ≡ false) (eqb (m
     (λ e. simp e (marked-step m (runIn n (m / 2)) ∙ run-in-end n (m / 2) (omega (arith, simp e at l))))
     (λ e. simp e (marked-low m ∙ e))
 
-pub run-le : (m : ℕ) → runOf m ≤ 64
-unfolding runOf
-run-le m = run-in-le 64 m
-
 -- every bit of the run is marked, and the next one is not
 pub run-marked : (m j : ℕ) → j < runOf m → isMarked m j ≡ true
 unfolding runOf
@@ -113,7 +109,3 @@ reach-top m j h e = reach-in-top 64 m j h e
 pub reach-told : (m : ℕ) → Fits w64 m → 64 - leadingZeros 64 m ≡ reachOf m
 unfolding reachOf
 reach-told m f = omega (arith, reach-is 64 m (f .fits))
-
-pub reach-le : (m : ℕ) → m < 2 ^ 64 → reachOf m ≤ 64
-unfolding reachOf
-reach-le m h = omega (arith, reach-is 64 m h)
