@@ -1,14 +1,4 @@
 -- The laws of what belongs to a receiving cluster, for this crate's proofs and those above it. Assumes nothing.
 pub mod ColumnLaws
 pub mod FormedLaws
-pub mod ReportLaws
-pub mod PlaceLaws
-pub mod ComplaintLaws
-pub mod JudgeLaws
-pub mod StepLaws
-pub mod Accepted
-pub mod HeardLaws
-pub mod Kept
-pub mod Later
-pub mod Meaning
 pub mod Unique

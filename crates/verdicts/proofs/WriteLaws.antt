@@ -29,7 +29,7 @@ use Rattle.downstream.specs.declared.state.Entry.{Entry}
 use Rattle.downstream.specs.declared.state.Cluster.{Cluster}
 use Rattle.downstream.specs.declared.state.Downstream.{Downstream}
 use Rattle.downstream.specs.State.{noEntry, sharesOf}
-use Rattle.downstream.specs.Verdicts.{dueOf, Judging}
+use Rattle.judging.specs.Verdicts.{dueOf, Judging}
 use Rattle.verdicts.specs.Written.{verdictBytes, verdictOf, verdictsTo, verdictsOf, verdictCount, Writing}
 
 -- the five parts of a verdict

@@ -14,7 +14,7 @@ use Rattle.downstream.specs.declared.state.Cluster.{Cluster}
 use Rattle.downstream.specs.declared.state.Entry.{Entry}
 use Rattle.downstream.specs.declared.state.Downstream.{Downstream}
 use Rattle.downstream.specs.State.{noEntry, sharesOf, placeAfter}
-use Rattle.downstream.specs.Verdicts.{dueOf, Judging}
+use Rattle.judging.specs.Verdicts.{dueOf, Judging}
 
 -- Verdict, 16 bytes: message number (8, little-endian), sender, receiver, resend number, five zeros
 unfoldable pub verdictBytes : ℕ → ℕ → ℕ → ℕ → List ℕ

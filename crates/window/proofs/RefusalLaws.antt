@@ -10,7 +10,7 @@ use Rattle.basics.proofs.CheckLaws.{first-passed, later-passed}
 use Rattle.marks.specs.Masks.{isMarked}
 use Rattle.marks.specs.Held.{noneAbove}
 use Rattle.downstream.specs.State.{reportAt}
-use Rattle.downstream.specs.Reports.{keepsAll}
+use Rattle.judging.specs.Reports.{keepsAll}
 use Rattle.downstream.proofs.FormedLaws.{kept-cluster, cluster-few}
 use Rattle.window.specs.declared.state.Window.{Window}
 use Rattle.window.specs.Formed.{wellFormed}

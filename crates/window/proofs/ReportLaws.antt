@@ -16,14 +16,14 @@ use Rattle.window.specs.declared.reporting.ReportAnswer.{ReportAnswer}
 use Rattle.window.specs.declared.reporting.Step.{Step}
 use Rattle.downstream.specs.State.{sharesOf}
 use Rattle.downstream.specs.Formed.{clusterKept}
-use Rattle.downstream.specs.Complaints.{takenOf, Taking}
-use Rattle.downstream.specs.Verdicts.{dueOf, judgedOf, Judging}
+use Rattle.judging.specs.Complaints.{takenOf, Taking}
+use Rattle.judging.specs.Verdicts.{dueOf, judgedOf, Judging}
 use Rattle.verdicts.specs.Written.{verdictsOf, verdictCount, Writing}
 use Rattle.window.specs.Reporting.{reportRefusal, Reportable}
 use Rattle.window.specs.Answers.{stepOf, stepOut, withDownstream, reportOf, reportOut}
 use Rattle.downstream.proofs.FormedLaws.{kept-cluster, cluster-few, cluster-accepted}
-use Rattle.downstream.proofs.Accepted.{may-take}
-use Rattle.downstream.proofs.Kept.{may-judge}
+use Rattle.judging.proofs.Accepted.{may-take}
+use Rattle.judging.proofs.Kept.{may-judge}
 use Rattle.window.proofs.FormedLaws.{formed-sending, formed-quantum}
 use Rattle.window.proofs.RefusalLaws.{accepts}
 

@@ -13,14 +13,14 @@ use Rattle.window.specs.declared.state.Window.{Window}
 use Rattle.window.specs.Formed.{wellFormed}
 use Rattle.window.specs.Opening.{openOf}
 use Rattle.window.specs.Sending.{sendRefusal, sendOf}
-use Rattle.downstream.specs.Complaints.{takenOf}
-use Rattle.downstream.specs.Verdicts.{judgedOf}
+use Rattle.judging.specs.Complaints.{takenOf}
+use Rattle.judging.specs.Verdicts.{judgedOf}
 use Rattle.window.specs.Reporting.{reportRefusal}
 use Rattle.window.specs.Answers.{stepOf, withDownstream, reportOf}
 use Rattle.window.specs.Season.{Call, sends, reports, nextOf, afterAll}
 use Rattle.window.proofs.FormedLaws.{formed-sending, formed-quantum}
-use Rattle.downstream.proofs.Accepted.{point-up}
-use Rattle.downstream.proofs.Kept.{judged-formed}
+use Rattle.judging.proofs.Accepted.{point-up}
+use Rattle.judging.proofs.Kept.{judged-formed}
 use Rattle.window.proofs.RefusalLaws.{accepts}
 use Rattle.window.proofs.SendKept.{send-kept, refused-send}
 use Rattle.window.proofs.OpenKept.{open-kept, open-places}

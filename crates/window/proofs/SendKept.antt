@@ -15,7 +15,7 @@ use Rattle.basics.proofs.CheckLaws.{first-passed, later-passed}
 use Rattle.downstream.specs.declared.state.Downstream.{Downstream}
 use Rattle.downstream.specs.State.{noEntry, placeAfter}
 use Rattle.downstream.specs.Formed.{downstreamKept}
-use Rattle.downstream.proofs.Later.{later-kept, next-empty}
+use Rattle.judging.proofs.Later.{later-kept, next-empty}
 use Rattle.window.specs.declared.state.Window.{Window}
 use Rattle.window.specs.Formed.{wellFormed}
 use Rattle.window.specs.Sending.{sendRefusal, sendOf}

@@ -9,8 +9,8 @@ use Rattle.downstream.specs.declared.state.Downstream.{Downstream}
 use Rattle.window.specs.declared.state.Window.{Window}
 use Rattle.window.specs.declared.reporting.ReportAnswer.{ReportAnswer}
 use Rattle.window.specs.declared.reporting.Step.{Step}
-use Rattle.downstream.specs.Complaints.{takenOf}
-use Rattle.downstream.specs.Verdicts.{judgedOf}
+use Rattle.judging.specs.Complaints.{takenOf}
+use Rattle.judging.specs.Verdicts.{judgedOf}
 use Rattle.verdicts.specs.Written.{verdictsOf, verdictCount}
 use Rattle.window.specs.Reporting.{reportRefusal}
 

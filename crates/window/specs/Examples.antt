@@ -20,12 +20,12 @@ use Rattle.downstream.specs.declared.state.Entry.{Entry}
 use Rattle.window.specs.declared.state.Window.{Window}
 use Rattle.downstream.specs.State.{noReport, noEntry, numbersOf, masksOf, pointFrom, isQuacked}
 use Rattle.downstream.specs.Formed.{placesZero, clusterKept, spanKept, reportsKept, complaintsKept, entriesKept, downstreamKept}
-use Rattle.downstream.specs.Reports.{keepsAll}
+use Rattle.judging.specs.Reports.{keepsAll}
 use Rattle.window.specs.Formed.{wellFormed}
 use Rattle.window.specs.Opening.{clusterFrom, noWindow, openOf}
 use Rattle.window.specs.Sending.{sendRefusal, sendOf}
-use Rattle.downstream.specs.Complaints.{entriesAfter, complains, complaintsAfter, takenOf}
-use Rattle.downstream.specs.Verdicts.{isDue, dueOf, judgedOf}
+use Rattle.judging.specs.Complaints.{entriesAfter, complains, complaintsAfter, takenOf}
+use Rattle.judging.specs.Verdicts.{isDue, dueOf, judgedOf}
 use Rattle.verdicts.specs.Written.{verdictBytes, verdictOf, verdictsTo, verdictsOf, verdictCount}
 use Rattle.window.specs.Reporting.{reportRefusal}
 use Rattle.window.specs.Answers.{stepOf, stepOut, reportOf, reportOut}

@@ -8,7 +8,7 @@ use Rattle.basics.specs.Checks.{_else_, firstFailing}
 use Rattle.marks.specs.Masks.{isMarked}
 use Rattle.marks.specs.Held.{noneAbove}
 use Rattle.downstream.specs.State.{reportAt}
-use Rattle.downstream.specs.Reports.{keepsAll, Accepting}
+use Rattle.judging.specs.Reports.{keepsAll, Accepting}
 use Rattle.window.specs.declared.state.Window.{Window}
 use Rattle.window.specs.Formed.{wellFormed}
 

@@ -5,7 +5,7 @@ use Prim.Native.Nat.{ℕ}
 use lib.Dec.{eqb}
 use Rattle.window.specs.declared.state.Window.{Window}
 use Rattle.window.specs.Sending.{sendOf}
-use Rattle.downstream.specs.Complaints.{takenOf}
+use Rattle.judging.specs.Complaints.{takenOf}
 use Rattle.verdicts.specs.Written.{verdictsOf}
 use Rattle.window.specs.Reporting.{reportRefusal}
 use Rattle.window.specs.Answers.{reportOf}

@@ -36,7 +36,7 @@ fn report_refusal(w: Window, i: u32, c: u64, mask: u64, room: usize) -> u32
     }
     let at = i as usize;
     let reports = w.downstream.reports;
-    if !downstream::keeps_all(reports[at], c, mask) {
+    if !judging::keeps_all(reports[at], c, mask) {
         return 13;
     }
     0
@@ -62,10 +62,10 @@ fn step_of(
     requires { ⌜ Reportable (record { sending = sending; quantum = quantum; sent = sent; downstream = before }) member number mask (length (now out)) ⌝ }
     ensures { λ r. ⌜ (r ≡ stepOf before sent member number mask) × (now (out .exit) ≡ stepOut sending quantum before sent member number mask (now (out .entry))) ⌝ }
 {
-    let d = downstream::taken(before, sent, member, number, mask);
-    let lost = downstream::due(d, sent);
+    let d = judging::taken(before, sent, member, number, mask);
+    let lost = judging::due_set(d, sent);
     let verdicts = verdicts::write_verdicts(sending, quantum, d, sent, lost, out);
-    let next = downstream::judged(d, sent, lost);
+    let next = judging::judged(d, sent, lost);
     Step {
         verdicts,
         downstream: next,

@@ -14,15 +14,15 @@ places c = search places-known
 taken-requires : tie.Need-taken-requires
 taken-requires c κs = let l = places (c .before) in search step-taking
 
-due-requires : tie.Need-due-requires
-due-requires c κs =
+due-set-requires : tie.Need-due-set-requires
+due-set-requires c κs =
     let l = places (c .before .before) in
     step-judging _ _ _ _ _ _ _ _ (c .before .before .pre) _ (c .taken .ensures) l
 
 write-verdicts-requires : tie.Need-write-verdicts-requires
 write-verdicts-requires c κs =
     let l = places (c .before .before .before .before) in
-    (step-writing _ _ _ _ _ _ _ _ (c .before .before .before .before .pre) _ (c .before .before .taken .ensures) l _ (c .before .due .ensures), step-room _ _ _ _ _ _ _ _ (c .before .before .before .before .pre))
+    (step-writing _ _ _ _ _ _ _ _ (c .before .before .before .before .pre) _ (c .before .before .taken .ensures) l _ (c .before .due-set .ensures), step-room _ _ _ _ _ _ _ _ (c .before .before .before .before .pre))
 
 judged-requires : tie.Need-judged-requires
 judged-requires c κs =
@@ -40,7 +40,7 @@ step-of-spec =
     tie.close
     (tie.spec
     taken-requires
-    due-requires
+    due-set-requires
     write-verdicts-requires
     judged-requires
     same-length

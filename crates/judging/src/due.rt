@@ -1,0 +1,168 @@
+// Judging the open messages: which verdicts are due, and what they change.
+use downstream::Downstream;
+use downstream::Entry;
+use downstream::lacking;
+use downstream::masks_of;
+use downstream::numbers_of;
+ghost use mathlib.Core.Path.{_≡_};
+ghost use mathlib.Core.Bool.{cond};
+ghost use Prim.Native.Nat.{ℕ, _≤_, _+_};
+ghost use lib.ListN.{length, getD};
+ghost use Rattle.marks.specs.Masks.{isMarked, markOf, setBelow};
+ghost use Rattle.downstream.specs.State.{noEntry, placeAfter, isQuacked};
+ghost use Rattle.judging.specs.Complaints.{entriesAfter};
+ghost use Rattle.judging.specs.Verdicts.{isDue, dueOf, raisedEntry, judgedOf, Judging};
+
+// Whether message k is QUACKed: by what the members that lack it leave of the total.
+fn is_quacked(shares: &[u32], u: u32, numbers: &[u64; 64], masks: &[u64; 64], k: u64) -> bool
+    requires { ⌜ length (now shares) ≤ 64 ⌝ }
+    ensures { λ b. ⌜ b ≡ isQuacked (now (shares .entry)) u (now (numbers .entry)) (now (masks .entry)) k ⌝ }
+{
+    let without = shares::share(shares, lacking(numbers, masks, shares.len(), k));
+    let total = shares::total(shares);
+    u as u64 + 1 + without <= total
+}
+
+// Whether a verdict on message k is due. The dear question, who holds it, is asked last.
+fn is_due(
+    shares: &[u32],
+    u: u32,
+    r: u32,
+    numbers: &[u64; 64],
+    masks: &[u64; 64],
+    k: u64,
+    e: Entry,
+) -> bool
+    requires { ⌜ length (now shares) ≤ 64 ⌝ }
+    ensures { λ b. ⌜ b ≡ isDue (now (shares .entry)) u r (now (numbers .entry)) (now (masks .entry)) k e ⌝ }
+{
+    if 255 <= e.count {
+        return false;
+    }
+    let against = shares::share(shares, e.complaints);
+    if against < r as u64 + 1 {
+        return false;
+    }
+    !is_quacked(shares, u, numbers, masks, k)
+}
+
+// The set with offset o in it, where its message is due.
+fn with_due(
+    set: u64,
+    o: u64,
+    shares: &[u32],
+    u: u32,
+    r: u32,
+    numbers: &[u64; 64],
+    masks: &[u64; 64],
+    k: u64,
+    e: Entry,
+) -> u64
+    requires { ⌜ length (now shares) ≤ 64 ⌝ }
+    ensures { λ b. ⌜ b ≡ cond (isDue (now (shares .entry)) u r (now (numbers .entry)) (now (masks .entry)) k e) (markOf set o) set ⌝ }
+{
+    if is_due(shares, u, r, numbers, masks, k, e) {
+        marks::mark(set, o)
+    } else {
+        set
+    }
+}
+
+// Those of the n messages after p that are due, a bit for each.
+fn due_among(
+    shares: &[u32],
+    u: u32,
+    r: u32,
+    numbers: &[u64; 64],
+    masks: &[u64; 64],
+    entries: [Entry; 64],
+    p: u64,
+    n: u64,
+) -> u64
+    requires { ⌜ (length (now shares) ≤ 64) × (p ≤ 1000000000000) × (n ≤ 64) ⌝ }
+    ensures { λ b. ⌜ b ≡ setBelow n (λ o. isDue (now (shares .entry)) u r (now (numbers .entry)) (now (masks .entry)) (p + 1 + o) (getD entries (placeAfter p o) noEntry)) ⌝ }
+{
+    let mut set: u64 = 0;
+    let mut o: u64 = 0;
+    while o < n {
+        let at = ((p + o) % 64) as usize;
+        set = with_due(set, o, shares, u, r, numbers, masks, p + 1 + o, entries[at]);
+        o += 1;
+    }
+    set
+}
+
+// The messages from p + 1 up to S that are due, a bit for each.
+// inner: for the report step, which has judged the report.
+pub fn due_set(d: Downstream, s: u64) -> u64
+    requires { ⌜ Judging d s ⌝ }
+    ensures { λ b. ⌜ b ≡ dueOf d s ⌝ }
+{
+    let p = d.point;
+    let n = d.cluster.members as usize;
+    let shares = d.cluster.shares;
+    let reports = d.reports;
+    let numbers = numbers_of(reports);
+    let masks = masks_of(reports);
+    let entries = d.entries;
+    due_among(
+        &shares[..n],
+        d.cluster.u,
+        d.cluster.r,
+        &numbers,
+        &masks,
+        entries,
+        p,
+        s - p,
+    )
+}
+
+// An entry whose message is due: the count raised, the set emptied.
+fn raised(due: u64, o: u64, e: Entry) -> Entry
+    requires { ⌜ e .count ≤ 255 ⌝ }
+    ensures { λ r. ⌜ r ≡ cond (isMarked due o) (raisedEntry e) e ⌝ }
+{
+    if marks::is_marked(due, o) {
+        return Entry {
+            count: e.count + 1,
+            complaints: 0,
+        };
+    }
+    e
+}
+
+fn raised_entries(due: u64, p: u64, n: u64, entries: [Entry; 64]) -> [Entry; 64]
+    requires { ⌜ (p ≤ 1000000000000) × (n ≤ 64) × ((j : ℕ) → getD entries j noEntry .count ≤ 255) ⌝ }
+    ensures { λ r. ⌜ r ≡ entriesAfter (λ o e. cond (isMarked due o) (raisedEntry e) e) p n entries ⌝ }
+{
+    let mut next = [Entry {
+        count: 0,
+        complaints: 0,
+    }; 64];
+    let mut o: u64 = 0;
+    while o < n {
+        let at = ((p + o) % 64) as usize;
+        next[at] = raised(due, o, entries[at]);
+        o += 1;
+    }
+    next
+}
+
+// The state after the verdicts on the messages up to S, those that are due being known.
+// inner: for the report step, which has judged the report.
+pub fn judged(d: Downstream, s: u64, due: u64) -> Downstream
+    requires { ⌜ (Judging d s) × (due ≡ dueOf d s) ⌝ }
+    ensures { λ r. ⌜ r ≡ judgedOf d s ⌝ }
+{
+    let cluster = d.cluster;
+    let point = d.point;
+    let reports = d.reports;
+    let before = d.entries;
+    let entries = raised_entries(due, point, s - point, before);
+    Downstream {
+        cluster,
+        point,
+        reports,
+        entries,
+    }
+}

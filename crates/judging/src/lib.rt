@@ -1,0 +1,9 @@
+// What a report changes at the receiving cluster, and which verdicts are then due.
+mod complaints;
+mod due;
+mod reports;
+
+pub use complaints::taken;
+pub use due::due_set;
+pub use due::judged;
+pub use reports::keeps_all;
