@@ -3,9 +3,10 @@
 // ill formed. A case is a word and decimal numbers, one space between; a line that starts with any other word, as #, is a
 // remark. What is written after the colon, the call's refusal first, stands above the function that the word leads to.
 //
-// The expected lines were not taken from a run: they were worked out by a model in another language that follows document 01's
-// sentences, on sets and lists where the library has masks and columns, and the refusals by hand from its table and its orders. Cases are lines and not code, so that another
-// one costs no proof.
+// The expected lines were not taken from a run: they were worked out by a model written from document 01, and the refusals by hand
+// from its table and its orders. Those of arrive-at and holds-well, and three of arrive, come from a second model, which follows the
+// document's sentences but was written with the library's code known. Cases are lines and not code, so that another one costs no
+// proof.
 mod bench;
 mod edits;
 mod lent;

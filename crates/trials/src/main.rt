@@ -3,10 +3,11 @@
 // space between; a line that starts with any other word, as #, is a remark. What is written after the colon, the call's refusal
 // first, stands above the function that the word leads to.
 //
-// The expected lines were not taken from a run: they were worked out by a model in another language that follows document 01's
-// sentences, on sets and lists where the library has masks and columns, and the refusals by hand from its table and its orders. The document does not name the small functions:
-// what they are to answer is what stands above each of them, and it was worked out on sets of bits and of messages, not on
-// masks. Cases are lines and not code, so that another one costs no proof. Functions that ask something of their caller are not
+// The expected lines were not taken from a run. Those of cluster, counts, first, resend, read and write were worked out by a model
+// written from document 01, and their refusals by hand from its table and its orders. Those of the other words come from a second
+// model, which follows the document's sentences but was written with the library's code known; the refusals of plan and pair were
+// then read against the table. The document does not name the small functions: what they are to answer is what stands above each
+// of them. Cases are lines and not code, so that another one costs no proof. Functions that ask something of their caller are not
 // here: a line could not be held to it.
 mod bytes;
 mod circles;
