@@ -1,0 +1,5 @@
+-- The laws of the exported calls. Assumes nothing.
+pub mod RecordLaws
+pub mod WindowLaws
+pub mod Stored
+pub mod Unique

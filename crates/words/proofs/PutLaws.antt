@@ -1,0 +1,116 @@
+-- Parts that are put one behind the other fill what was lent. Assumes nothing.
+use mathlib.Core.Path.{_≡_, refl, ap, sym, _∙_}
+use mathlib.Core.List.{List, [], _∷_, _++_, append-nil}
+use Prim.Native.Nat.{ℕ, _+_, _≤_}
+use native.Mathlib.Nat.{zero-add}
+use native.Mathlib.Omega.{arith}
+use lib.ListN.{length, drop, set, getD, drop-of-length-le, length-append}
+use lib.Seq.{sets, sets-eq}
+use borrow.Rule.Slice.PartMut.{putMid}
+use Rattle.basics.proofs.PartLaws.{put-next}
+use Rattle.basics.proofs.SumLaws.{length-list}
+use Rattle.downstream.specs.declared.state.Cluster.{Cluster}
+use Rattle.downstream.specs.declared.state.Report.{Report}
+use Rattle.downstream.specs.declared.state.Entry.{Entry}
+use Rattle.downstream.specs.State.{noEntry, reportAt, numbersOf, masksOf}
+use Rattle.window.specs.declared.state.Window.{Window}
+use Rattle.words.specs.Put.{sharesWords, clusterWords, heardOf, countsOf, complaintsOf, reportWords, entryWords, wordsOf}
+
+-- one part more behind those that are there
+more : (p ys s xs : List ℕ) (a k : ℕ) → xs ≡ p ++ drop a s → length p ≡ a → length ys ≡ k → putMid a k xs ys ≡ (p ++ ys) ++ drop (a + k) s
+more p ys s xs a k e f g = ap (λ (l : List ℕ). putMid a k l ys) e ∙ put-next p ys s a k f g
+
+-- nothing is left of what was lent
+full : (p s : List ℕ) (n : ℕ) → length s ≡ n → p ++ drop n s ≡ p
+full p s n e = ap (λ (t : List ℕ). p ++ t) (drop-of-length-le s {i = n} (omega (arith, e))) ∙ append-nil p
+
+-- as many words as there are places, stored one behind the other
+pub sets-all : (vs s : List ℕ) → length s ≡ length vs → sets s 0 vs ≡ vs
+sets-all vs s e = sets-eq vs s 0 (omega (arith, e, zero-add (length vs))) ∙ ap (λ (n : ℕ). vs ++ drop n s) (zero-add (length vs)) ∙ full vs s (length vs) e
+
+pub three-set : (a b c : ℕ) (s : List ℕ) → length s ≡ 3 → set (set (set s 0 a) 1 b) 2 c ≡ a ∷ b ∷ c ∷ []
+three-set a b c s e = sets-all (a ∷ b ∷ c ∷ []) s e
+
+length-shares : (c : Cluster) → length (sharesWords c) ≡ 64
+unfolding sharesWords
+length-shares c = length-list (λ i. getD (c .shares) i 0) 64
+
+pub cluster-put : (c : Cluster) (s y z : List ℕ) → length s ≡ 67 → y ≡ c .members ∷ c .u ∷ c .r ∷ [] → z ≡ sharesWords c → putMid 3 64 (putMid 0 3 s y) z ≡ clusterWords c
+unfolding clusterWords
+cluster-put c s y z l d e =
+    let ly : length y ≡ 3 = ap length d in
+    let lz : length z ≡ 64 = ap length e ∙ length-shares c in
+    more y z s (putMid 0 3 s y) 3 64 (put-next [] y s 0 3 refl ly) ly lz ∙ full (y ++ z) s 67 l ∙ rw (d, e)
+
+length-cluster : (c : Cluster) → length (clusterWords c) ≡ 67
+unfolding clusterWords
+length-cluster c = length-append (c .members ∷ c .u ∷ c .r ∷ []) (sharesWords c) ∙ omega (arith, length-shares c)
+
+length-numbers : (l : List Report) → length (numbersOf l) ≡ 64
+unfolding numbersOf
+length-numbers l = length-list (λ i. reportAt l i .number) 64
+
+length-masks : (l : List Report) → length (masksOf l) ≡ 64
+unfolding masksOf
+length-masks l = length-list (λ i. reportAt l i .mask) 64
+
+length-heard : (l : List Report) → length (heardOf l) ≡ 64
+unfolding heardOf
+length-heard l = length-list _ 64
+
+length-counts : (l : List Entry) → length (countsOf l) ≡ 64
+unfolding countsOf
+length-counts l = length-list (λ i. getD l i noEntry .count) 64
+
+length-complaints : (l : List Entry) → length (complaintsOf l) ≡ 64
+unfolding complaintsOf
+length-complaints l = length-list (λ i. getD l i noEntry .complaints) 64
+
+length-entries : (l : List Entry) → length (entryWords l) ≡ 128
+unfolding entryWords
+length-entries l = length-append (countsOf l) (complaintsOf l) ∙ omega (arith, length-counts l, length-complaints l)
+
+pub entries-put : (l : List Entry) (s a b : List ℕ) → length s ≡ 128 → a ≡ countsOf l → b ≡ complaintsOf l → putMid 64 64 (putMid 0 64 s a) b ≡ entryWords l
+unfolding entryWords
+entries-put l s a b n e f =
+    let la : length a ≡ 64 = ap length e ∙ length-counts l in
+    let lb : length b ≡ 64 = ap length f ∙ length-complaints l in
+    more a b s (putMid 0 64 s a) 64 64 (put-next [] a s 0 64 refl la) la lb ∙ full (a ++ b) s 128 n ∙ rw (e, f)
+
+length-reports : (l : List Report) → length (reportWords l) ≡ 192
+unfolding reportWords
+length-reports l =
+    length-append (numbersOf l ++ masksOf l) (heardOf l)
+    ∙ omega (arith, length-append (numbersOf l) (masksOf l), length-numbers l, length-masks l, length-heard l)
+
+pub reports-put : (l : List Report) (s a b c : List ℕ) → length s ≡ 192 → a ≡ numbersOf l → b ≡ masksOf l → c ≡ heardOf l → putMid 128 64 (putMid 64 64 (putMid 0 64 s a) b) c ≡ reportWords l
+unfolding reportWords
+reports-put l s a b c n e f g =
+    let la : length a ≡ 64 = ap length e ∙ length-numbers l in
+    let lb : length b ≡ 64 = ap length f ∙ length-masks l in
+    let lc : length c ≡ 64 = ap length g ∙ length-heard l in
+    let lab : length (a ++ b) ≡ 128 = length-append a b ∙ omega (arith, la, lb) in
+    let one : putMid 0 64 s a ≡ a ++ drop 64 s = put-next [] a s 0 64 refl la in
+    let two : putMid 64 64 (putMid 0 64 s a) b ≡ (a ++ b) ++ drop 128 s = more a b s (putMid 0 64 s a) 64 64 one la lb in
+    more (a ++ b) c s (putMid 64 64 (putMid 0 64 s a) b) 128 64 two lab lc ∙ full (a ++ b ++ c) s 192 n ∙ rw (e, f, g)
+
+pub window-put : (w : Window) (s a b c d e : List ℕ) → length s ≡ 457 → a ≡ clusterWords (w .sending) → b ≡ clusterWords (w .downstream .cluster)
+    → c ≡ w .quantum ∷ w .sent ∷ w .downstream .point ∷ [] → d ≡ reportWords (w .downstream .reports) → e ≡ entryWords (w .downstream .entries)
+    → putMid 329 128 (putMid 137 192 (putMid 134 3 (putMid 67 67 (putMid 0 67 s a) b) c) d) e ≡ wordsOf w
+unfolding wordsOf
+window-put w s a b c d e n ea eb ec ed ee =
+    let la : length a ≡ 67 = ap length ea ∙ length-cluster (w .sending) in
+    let lb : length b ≡ 67 = ap length eb ∙ length-cluster (w .downstream .cluster) in
+    let lc : length c ≡ 3 = ap length ec in
+    let ld : length d ≡ 192 = ap length ed ∙ length-reports (w .downstream .reports) in
+    let le : length e ≡ 128 = ap length ee ∙ length-entries (w .downstream .entries) in
+    let lab : length (a ++ b) ≡ 134 = length-append a b ∙ omega (arith, la, lb) in
+    let labc : length (a ++ b ++ c) ≡ 137 = length-append (a ++ b) c ∙ omega (arith, lab, lc) in
+    let labcd : length (a ++ b ++ c ++ d) ≡ 329 = length-append (a ++ b ++ c) d ∙ omega (arith, labc, ld) in
+    let one : putMid 0 67 s a ≡ a ++ drop 67 s = put-next [] a s 0 67 refl la in
+    let two : putMid 67 67 (putMid 0 67 s a) b ≡ (a ++ b) ++ drop 134 s = more a b s (putMid 0 67 s a) 67 67 one la lb in
+    let three : putMid 134 3 (putMid 67 67 (putMid 0 67 s a) b) c ≡ (a ++ b ++ c) ++ drop 137 s = more (a ++ b) c s (putMid 67 67 (putMid 0 67 s a) b) 134 3 two lab lc in
+    let four : putMid 137 192 (putMid 134 3 (putMid 67 67 (putMid 0 67 s a) b) c) d ≡ (a ++ b ++ c ++ d) ++ drop 329 s = more (a ++ b ++ c) d s (putMid 134 3 (putMid 67 67 (putMid 0 67 s a) b) c) 137 192 three labc ld in
+    more (a ++ b ++ c ++ d) e s (putMid 137 192 (putMid 134 3 (putMid 67 67 (putMid 0 67 s a) b) c) d) 329 128 four labcd le
+    ∙ full (a ++ b ++ c ++ d ++ e) s 457 n
+    ∙ rw (ea, eb, ec, ed, ee)

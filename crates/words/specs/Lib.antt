@@ -1,0 +1,4 @@
+-- The definitions that the contracts of `words` cite. Assumes nothing.
+pub mod Places
+pub mod Taken
+pub mod Put
