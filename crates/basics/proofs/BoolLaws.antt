@@ -4,7 +4,7 @@ use mathlib.Core.Bool.{Bool, true, false, cond, not, _&&_, _||_, true≢false}
 use mathlib.Core.Logic.{_⊎_, inl, inr}
 use Prim.Native.Nat.{ℕ, _≤_, _<_}
 use lib.Dec.{leb, ltb, eqb}
-use borrow.Author.Tests.{lt-ltb, le-ltb, le-leb, lt-leb, eq-eqb, ne-eqb, eqb-true, leb-true, not-true, not-false}
+use borrow.Author.Tests.{lt-ltb, le-ltb, le-leb, lt-leb, eq-eqb, ne-eqb, eqb-true, leb-true, ltb-true, not-true, not-false}
 use borrow.Author.Needs.{needs}
 
 pub bool-cases : (b : Bool) → (b ≡ true) ⊎ (b ≡ false)
@@ -73,6 +73,9 @@ eqb-same a b x y f g = same-test (eqb a b) (eqb x y) (λ t. eq-eqb x y (f (eqb-t
 
 pub leb-same : (a b x y : ℕ) → (a ≤ b → x ≤ y) → (x ≤ y → a ≤ b) → leb a b ≡ leb x y
 leb-same a b x y f g = same-test (leb a b) (leb x y) (λ t. le-leb x y (f (leb-true a b t))) (λ t. le-leb a b (g (leb-true x y t)))
+
+pub ltb-same : (a b x y : ℕ) → (a < b → x < y) → (x < y → a < b) → ltb a b ≡ ltb x y
+ltb-same a b x y f g = same-test (ltb a b) (ltb x y) (λ t. lt-ltb x y (f (ltb-true a b t))) (λ t. lt-ltb a b (g (ltb-true x y t)))
 
 -- ---- the arms of a branch, against `cond`
 module _ {A : Type 0} where

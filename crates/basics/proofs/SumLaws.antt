@@ -3,7 +3,7 @@ use mathlib.Core.Path.{_≡_, refl, ap, ap₂, sym, _∙_}
 use mathlib.Core.Bool.{Bool, true, _&&_}
 use mathlib.Core.List.{List, [], _∷_, _++_}
 use Prim.Native.Nat.{ℕ, zero, suc, _+_, _*_, _≤_, _<_, zero-le}
-use native.Mathlib.Nat.{add-mul, zero-mul}
+use native.Mathlib.Nat.{add-mul, zero-mul, add-zero, add-suc}
 use native.Mathlib.Numerals.{add-one}
 use native.Mathlib.Decide.{decLt}
 use native.Mathlib.Omega.{arith}
@@ -39,6 +39,12 @@ pub sum-zero : (f : ℕ → ℕ) (n : ℕ) → ((j : ℕ) → j < n → f j ≡ 
 unfolding sumBelow
 sum-zero f zero h = refl
 sum-zero f (suc n) h = omega (arith, sum-zero f n (λ j l. h j (omega arith)), h n (omega arith))
+
+-- what is 0 from n on adds nothing
+pub sum-tail : (f : ℕ → ℕ) (n d : ℕ) → ((j : ℕ) → n ≤ j → j < n + d → f j ≡ 0) → sumBelow (n + d) f ≡ sumBelow n f
+unfolding sumBelow
+sum-tail f n zero h = ap (λ (m : ℕ). sumBelow m f) (add-zero n)
+sum-tail f n (suc d) h = ap (λ (m : ℕ). sumBelow m f) (add-suc n d) ∙ omega (arith, sum-tail f n d (λ j a b. h j a (omega arith)), h (n + d) (omega arith) (omega arith))
 
 pub sum-mono : (f g : ℕ → ℕ) (n : ℕ) → ((j : ℕ) → j < n → f j ≤ g j) → sumBelow n f ≤ sumBelow n g
 unfolding sumBelow
@@ -102,6 +108,11 @@ pub all-of : (p : ℕ → Bool) (n : ℕ) → ((j : ℕ) → j < n → p j ≡ t
 unfolding allBelow
 all-of p zero h = refl
 all-of p (suc n) h = and-both (allBelow n p) (p n) (all-of p n (λ j l. h j (omega arith))) (h n (omega arith))
+
+pub all-cong : (p q : ℕ → Bool) (n : ℕ) → ((j : ℕ) → j < n → p j ≡ q j) → allBelow n p ≡ allBelow n q
+unfolding allBelow
+all-cong p q zero h = refl
+all-cong p q (suc n) h = ap₂ _&&_ (all-cong p q n (λ j l. h j (omega arith))) (h n (omega arith))
 
 -- ---- the highest
 pub highest-at : (f : ℕ → ℕ) (n j : ℕ) → j < n → f j ≤ highestBelow n f

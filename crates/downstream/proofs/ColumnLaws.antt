@@ -1,13 +1,19 @@
 -- Columns of the reports, and the members that lack a message. Assumes nothing.
 use mathlib.Core.Path.{_≡_, ap, sym, _∙_}
-use mathlib.Core.Bool.{Bool, true, false, cond, not}
+use mathlib.Core.Bool.{Bool, true, false, cond, not, _&&_, _||_}
+use mathlib.Core.Logic.{inl, inr}
 use mathlib.Core.List.{List, _++_, append-nil, map}
-use Prim.Native.Nat.{ℕ, _+_, _≤_, _<_}
+use Prim.Native.Nat.{ℕ, _+_, _≤_, _<_, min}
 use native.Mathlib.Omega.{arith}
+use mir.Syntax.{w64}
+use mir.Val.{Fits}
+use lib.Dec.{ltb}
 use lib.ListN.{length, getD, drop, set, replicate, drop-of-length-le, length-replicate, length-map}
 use Rattle.basics.specs.Sums.{listBelow}
-use Rattle.basics.proofs.SumLaws.{list-at, list-turn}
-use Rattle.marks.specs.Masks.{markOf, isSubset}
+use Rattle.basics.proofs.BoolLaws.{bool-cases, ltb-same}
+use Rattle.basics.proofs.SumLaws.{all-cong, list-at, list-turn}
+use Rattle.marks.specs.Masks.{isMarked, markOf, isSubset, reachOf}
+use Rattle.marks.proofs.RunLaws.{reach-above}
 use Rattle.marks.specs.Held.{holdsOf}
 use Rattle.marks.proofs.SetLaws.{marked-set}
 use Rattle.downstream.specs.declared.state.Report.{Report}
@@ -47,3 +53,19 @@ module _ (number mask k t i : ℕ) {b : Bool} (e : b ≡ holdsOf number mask k) 
 pub subset-lacking : (n : ℕ) (numbers masks : List ℕ) (k bits : ℕ) {l : ℕ} {b : Bool} → l ≡ lackingOf numbers masks n k → b ≡ isSubset bits l → b ≡ complaintsKept n numbers masks k bits
 unfolding isSubset lackingOf complaintsKept
 subset-lacking n numbers masks k bits {l} {b} e q = q ∙ rw e (simp (marked-set (λ i. not (heldBy numbers masks k i)) n))
+
+-- past the last member that a set names it makes no difference how many there are
+module _ (n : ℕ) (numbers masks : List ℕ) (k bits : ℕ) (fits : Fits w64 bits) where
+  abbrev asks : ℕ → ℕ → Bool
+  asks m i = not (isMarked bits i) || (ltb i m && not (heldBy numbers masks k i))
+
+  named-same : (m i : ℕ) → m ≡ min n (reachOf bits) → asks m i ≡ asks n i
+  named-same m i e = elim (bool-cases (isMarked bits i)) [
+    | inl t ↦ (let l : i < reachOf bits = reach-above bits i (fits .fits) t in
+        ap (λ (b : Bool). not (isMarked bits i) || (b && not (heldBy numbers masks k i))) (ltb-same i m i n (λ a. omega arith) (λ a. omega arith)))
+    | inr t ↦ simp t
+  ]
+
+  pub subset-named : (m r l : ℕ) (b : Bool) → r ≡ reachOf bits → m ≡ min n r → l ≡ lackingOf numbers masks m k → b ≡ isSubset bits l → b ≡ complaintsKept n numbers masks k bits
+  unfolding complaintsKept
+  subset-named m r l b f e g h = subset-lacking m numbers masks k bits g h ∙ all-cong (asks m) (asks n) 64 (λ i x. named-same m i (rw f at e))

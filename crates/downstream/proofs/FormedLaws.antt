@@ -119,11 +119,11 @@ module _ (d : Downstream) (s : ℕ) (a : Bool) (ea : a ≡ spanKept (d .point) s
     pub down-few : b ≡ true → d .cluster .members ≤ 64
     down-few h = cluster-few (d .cluster) (sym eb ∙ h)
 
-    pub down-judged : b ≡ true → (numbers masks : List ℕ) (reports closed : Bool) (p : ℕ) → numbers ≡ numbersOf (d .reports) → masks ≡ masksOf (d .reports)
-        → reports ≡ reportsKept (d .cluster .members) (d .reports) s → p ≡ pointFrom (d .cluster) numbers
-        → closed ≡ entriesKept (d .cluster .members) numbers masks (d .entries) (d .point) s → (reports && eqb (d .point) p && closed) ≡ downstreamKept d s
+    pub down-judged : b ≡ true → (numbers masks : List ℕ) (reports point closed : Bool) → numbers ≡ numbersOf (d .reports) → masks ≡ masksOf (d .reports)
+        → reports ≡ reportsKept (d .cluster .members) (d .reports) s → point ≡ eqb (d .point) (pointFrom (d .cluster) numbers)
+        → closed ≡ entriesKept (d .cluster .members) numbers masks (d .entries) (d .point) s → (reports && point && closed) ≡ downstreamKept d s
     unfolding downstreamKept
-    down-judged h numbers masks reports closed p en em er ep eo = simp (sym ea ∙ ta, sym eb ∙ h) (rw (er, ep, eo, en, em) refl)
+    down-judged h numbers masks reports point closed en em er ep eo = simp (sym ea ∙ ta, sym eb ∙ h) (rw (er, ep, eo, en, em) refl)
 
 pub ruleset downs = (down-span, down-point, down-cluster, down-few, not-true, not-false)
 

@@ -9,6 +9,7 @@ use crate::state::Report;
 ghost use mathlib.Core.Path.{_≡_};
 ghost use mathlib.Core.Bool.{true};
 ghost use Prim.Native.Nat.{_≤_};
+ghost use lib.Dec.{eqb};
 ghost use Rattle.downstream.specs.State.{pointFrom};
 ghost use Rattle.downstream.specs.Formed.{placesZero, clusterKept, spanKept, reportKept, reportsKept, complaintsKept, entryKept, entriesKept, downstreamKept};
 
@@ -40,7 +41,8 @@ pub fn cluster_kept(c: Cluster) -> bool
     (refusal == 0) & zero
 }
 
-fn span_kept(p: u64, s: u64) -> bool
+// Whether p ≤ S ≤ p + 64, and S is in range.
+pub fn span_kept(p: u64, s: u64) -> bool
     ensures { λ r. ⌜ r ≡ spanKept p s ⌝ }
 {
     if 1_000_000_000_000 < s {
@@ -52,12 +54,13 @@ fn span_kept(p: u64, s: u64) -> bool
     s <= p + 64
 }
 
-fn report_kept(members: u32, s: u64, i: usize, rep: Report) -> bool
+// Whether the report in place i is one that a member of so many can have given, nothing above S being sent.
+pub fn report_kept(members: u32, s: u64, i: usize, rep: Report) -> bool
     ensures { λ r. ⌜ r ≡ reportKept members s i rep ⌝ }
 {
-    let first = marks::is_marked(rep.mask, 0);
-    let none = marks::none_above(rep.number, rep.mask, s);
     if rep.heard {
+        let first = marks::is_marked(rep.mask, 0);
+        let none = marks::none_above(rep.number, rep.mask, s);
         (i < members as usize) & !first & none
     } else {
         (rep.number == 0) & (rep.mask == 0)
@@ -76,14 +79,25 @@ fn reports_kept(members: u32, reports: [Report; 64], s: u64) -> bool
     kept
 }
 
+// Past the last member that is named nobody is asked, and where none is named nobody at all.
 fn complaints_kept(n: usize, numbers: &[u64; 64], masks: &[u64; 64], k: u64, bits: u64) -> bool
     requires { ⌜ n ≤ 64 ⌝ }
     ensures { λ r. ⌜ r ≡ complaintsKept n (now (numbers .entry)) (now (masks .entry)) k bits ⌝ }
 {
-    marks::is_subset(bits, lacking(numbers, masks, n, k))
+    let past = basics::least(n as u64, marks::reach(bits)) as usize;
+    marks::is_subset(bits, lacking(numbers, masks, past, k))
 }
 
-fn entry_kept(n: usize, numbers: &[u64; 64], masks: &[u64; 64], s: u64, k: u64, e: Entry) -> bool
+// Whether the entry of message k is kept: open up to S, and empty above it.
+// inner: the places are 64.
+pub fn entry_kept(
+    n: usize,
+    numbers: &[u64; 64],
+    masks: &[u64; 64],
+    s: u64,
+    k: u64,
+    e: Entry,
+) -> bool
     requires { ⌜ n ≤ 64 ⌝ }
     ensures { λ r. ⌜ r ≡ entryKept n (now (numbers .entry)) (now (masks .entry)) s k e ⌝ }
 {
@@ -127,6 +141,17 @@ pub fn point_from(c: Cluster, numbers: [u64; 64]) -> u64
     shares::point(&shares[..n], &numbers, c.u as u64 + 1)
 }
 
+// Whether p is the point that the members' numbers give.
+// inner: for a cluster whose members have places, and a point in range.
+pub fn point_kept(c: Cluster, numbers: &[u64; 64], p: u64) -> bool
+    requires { ⌜ (c .members ≤ 64) × (p ≤ 1000000000000) ⌝ }
+    ensures { λ r. ⌜ r ≡ eqb p (pointFrom c (now (numbers .entry))) ⌝ }
+{
+    let n = c.members as usize;
+    let shares = c.shares;
+    shares::is_point(&shares[..n], numbers, c.u as u64 + 1, p)
+}
+
 pub fn downstream_kept(d: Downstream, s: u64) -> bool
     ensures { λ r. ⌜ r ≡ downstreamKept d s ⌝ }
 {
@@ -144,7 +169,7 @@ pub fn downstream_kept(d: Downstream, s: u64) -> bool
     let numbers = numbers_of(reports);
     let masks = masks_of(reports);
     let told = reports_kept(cluster.members, reports, s);
-    let point = point_from(cluster, numbers);
+    let point = point_kept(cluster, &numbers, p);
     let open = entries_kept(n, &numbers, &masks, entries, p, s);
-    told & (p == point) & open
+    told & point & open
 }

@@ -2,113 +2,143 @@
 use mathlib.Core.Path.{_≡_, refl, ap, sym, _∙_}
 use mathlib.Core.Bool.{Bool, true, false, cond, _&&_}
 use mathlib.Core.List.{List, [], _∷_}
-use Prim.Native.Nat.{ℕ}
+use Prim.Native.Nat.{ℕ, _≤_}
+use native.Mathlib.Omega.{arith}
 use lib.Dec.{eqb}
 use lib.ListN.{length}
 use borrow.Author.Tests.{eq-eqb, ne-eqb}
+use Rattle.basics.proofs.BoolLaws.{either, and-left, and-right}
 use Rattle.window.specs.declared.state.Window.{Window}
-use Rattle.window.specs.declared.sending.SendAnswer.{SendAnswer}
 use Rattle.window.specs.declared.reporting.ReportAnswer.{ReportAnswer}
 use Rattle.window.specs.Formed.{wellFormed}
-use Rattle.window.specs.Sending.{sendRefusal, sendOf, withSent}
+use Rattle.window.specs.Sending.{nextRefusal, sendRefusal, sendOf, withSent}
+use Rattle.window.specs.Reporting.{reportRefusal}
 use Rattle.window.specs.Answers.{reportOf, reportOut}
-use Rattle.words.specs.Taken.{fits, windowIn}
+use Rattle.window.proofs.SendLaws.{sent-small, point-small, send-next, send-17}
+use Rattle.window.proofs.RefusalLaws.{report-17}
+use Rattle.words.specs.Taken.{wordAt, fits, windowIn, formedIn}
 use Rattle.words.specs.Put.{wordsOf}
 use Rattle.link.specs.Windows.{judgeNumber, sendNumber, sendWords, reportNumber, reportVerdicts, reportWords, reportBytes}
 
-pub fit-known : (ws : List ℕ) (b : Bool) → b ≡ fits ws → b ≡ true → fits ws ≡ true
-fit-known ws b e t = sym e ∙ t
-
--- ---- words that do not fit
-module _ (ws : List ℕ) (b : Bool) (e : b ≡ fits ws) (f : b ≡ false) where
-  unfit : fits ws ≡ false
-  unfit = sym e ∙ f
-
-  pub judge-unfit : 17 ≡ judgeNumber ws
+-- ---- judging
+module _ (ws : List ℕ) (b : Bool) (e : b ≡ formedIn ws) where
+  pub judge-formed : b ≡ true → 0 ≡ judgeNumber ws
   unfolding judgeNumber
-  judge-unfit = simp unfit
+  judge-formed t = simp (sym e ∙ t)
 
-  pub send-unfit : (k : ℕ) → 17 ≡ sendNumber ws k
-  unfolding sendNumber
-  send-unfit k = simp unfit
+  pub judge-not : b ≡ false → 17 ≡ judgeNumber ws
+  unfolding judgeNumber
+  judge-not t = simp (sym e ∙ t)
 
-  pub send-unfit-words : (k : ℕ) → ws ≡ sendWords ws k
+-- ---- words in which no well-formed state stands
+module _ (ws : List ℕ) (b : Bool) (e : b ≡ formedIn ws) (t : b ≡ false) where
+  ill : (fits ws && wellFormed (windowIn ws)) ≡ false
+  unfolding formedIn
+  ill = sym e ∙ t
+
+  ill-formed : fits ws ≡ true → wellFormed (windowIn ws) ≡ false
+  ill-formed f = simp f at ill
+
+  pub send-ill : (k : ℕ) → 17 ≡ sendNumber ws k
+  unfolding sendNumber sendOf
+  send-ill k =
+      either (17 ≡ cond (fits ws) (sendRefusal (windowIn ws) k) 17) (fits ws)
+      (λ f. simp f (send-17 (windowIn ws) false (sym (ill-formed f)) refl k))
+      (λ f. simp f)
+
+  pub send-ill-words : (k : ℕ) → ws ≡ sendWords ws k
   unfolding sendWords
-  send-unfit-words k = simp (← send-unfit k)
+  send-ill-words k = simp (← send-ill k)
 
-  pub report-unfit : (i c mask room : ℕ) → 17 ≡ reportNumber ws i c mask room
-  unfolding reportNumber
-  report-unfit i c mask room = simp unfit
+  refused : (i c mask room : ℕ) → fits ws ≡ true → 17 ≡ reportRefusal (windowIn ws) i c mask room
+  refused i c mask room f = report-17 (windowIn ws) i c mask room false (sym (ill-formed f)) refl
 
-  pub report-unfit-words : (i c mask room : ℕ) → ws ≡ reportWords ws i c mask room
+  pub report-ill : (i c mask room : ℕ) → 17 ≡ reportNumber ws i c mask room
+  unfolding reportNumber reportOf
+  report-ill i c mask room = either (17 ≡ reportNumber ws i c mask room) (fits ws) (λ f. simp (f, ← refused i c mask room f)) (λ f. simp f)
+
+  pub report-ill-words : (i c mask room : ℕ) → ws ≡ reportWords ws i c mask room
   unfolding reportWords
-  report-unfit-words i c mask room = simp (← report-unfit i c mask room)
+  report-ill-words i c mask room = simp (← report-ill i c mask room)
 
-  pub report-unfit-bytes : (i c mask : ℕ) (out : List ℕ) → out ≡ reportBytes ws i c mask out
-  unfolding reportBytes
-  report-unfit-bytes i c mask out = simp unfit
+  pub report-ill-bytes : (i c mask : ℕ) (out : List ℕ) → out ≡ reportBytes ws i c mask out
+  unfolding reportBytes reportOut
+  report-ill-bytes i c mask out = either (out ≡ reportBytes ws i c mask out) (fits ws) (λ f. simp (f, ← refused i c mask (length out) f)) (λ f. simp f)
 
-  unfit-none : (i c mask room : ℕ) → 0 ≡ reportVerdicts ws i c mask room
-  unfolding reportVerdicts
-  unfit-none i c mask room = simp unfit
+  ill-none : (i c mask room : ℕ) → 0 ≡ reportVerdicts ws i c mask room
+  unfolding reportVerdicts reportOf
+  ill-none i c mask room = either (0 ≡ reportVerdicts ws i c mask room) (fits ws) (λ f. simp (f, ← refused i c mask room f)) (λ f. simp f)
 
-  pub report-unfit-answer : (i c mask room : ℕ) → 0 ∷ [] ≡ reportVerdicts ws i c mask room ∷ []
-  report-unfit-answer i c mask room = ap (λ (v : ℕ). v ∷ []) (unfit-none i c mask room)
+  pub report-ill-answer : (i c mask room : ℕ) → 0 ∷ [] ≡ reportVerdicts ws i c mask room ∷ []
+  report-ill-answer i c mask room = ap (λ (v : ℕ). v ∷ []) (ill-none i c mask room)
 
--- ---- words that fit
-module _ (ws : List ℕ) (b : Bool) (e : b ≡ fits ws) (t : b ≡ true) (w : Window) (z : w ≡ windowIn ws) where
-  fit : fits ws ≡ true
-  fit = sym e ∙ t
+-- ---- words in which one stands
+module _ (ws : List ℕ) (b : Bool) (e : b ≡ formedIn ws) (t : b ≡ true) where
+  both : (fits ws && wellFormed (windowIn ws)) ≡ true
+  unfolding formedIn
+  both = sym e ∙ t
 
-  pub judge-told : (g : Bool) → g ≡ wellFormed w → g ≡ true → 0 ≡ judgeNumber ws
-  unfolding judgeNumber
-  judge-told g d h = simp (fit, ← z, ← d, h)
+  pub fit-known : fits ws ≡ true
+  fit-known = and-left (fits ws) (wellFormed (windowIn ws)) both
 
-  pub judge-not : (g : Bool) → g ≡ wellFormed w → g ≡ false → 17 ≡ judgeNumber ws
-  unfolding judgeNumber
-  judge-not g d h = simp (fit, ← z, ← d, h)
+  well : wellFormed (windowIn ws) ≡ true
+  well = and-right (fits ws) (wellFormed (windowIn ws)) both
 
-  module _ (k : ℕ) (a : SendAnswer) (d : a ≡ sendOf w k) where
-    pub send-is : a .refusal ≡ sendNumber ws k
-    unfolding sendNumber
-    send-is = simp (fit, ← z, ← d)
+  pub well-known : (w : Window) → w ≡ windowIn ws → true ≡ wellFormed w
+  well-known w z = sym (ap wellFormed z ∙ well)
 
-    pub send-refused-words : (a .refusal ≡ 0 → ⊥) → ws ≡ sendWords ws k
+  pub sent-in-range : wordAt ws 135 ≤ 1000000000000
+  unfolding windowIn
+  sent-in-range = sent-small (windowIn ws) true (sym well) refl
+
+  pub point-in-range : wordAt ws 136 ≤ 1000000000000
+  unfolding windowIn
+  point-in-range = point-small (windowIn ws) true (sym well) refl
+
+  module _ (k r : ℕ) (d : r ≡ nextRefusal (wordAt ws 135) (wordAt ws 136) k) where
+    refusal-is : r ≡ sendRefusal (windowIn ws) k
+    unfolding windowIn
+    refusal-is = send-next (windowIn ws) true (sym well) refl k r d
+
+    pub send-is : r ≡ sendNumber ws k
+    unfolding sendNumber sendOf
+    send-is = refusal-is ∙ simp fit-known
+
+    pub send-refused-words : (r ≡ 0 → ⊥) → ws ≡ sendWords ws k
     unfolding sendWords
-    send-refused-words n = simp (← send-is, ne-eqb (a .refusal) 0 n)
+    send-refused-words n = simp (← send-is, ne-eqb r 0 n)
 
-    pub send-done : a .refusal ≡ 0 → 0 ≡ sendNumber ws k
+    pub send-done : r ≡ 0 → 0 ≡ sendNumber ws k
     send-done n = sym n ∙ send-is
 
-    pub send-done-words : (ws′ : List ℕ) → ws′ ≡ wordsOf (withSent (windowIn ws) k) → a .refusal ≡ 0 → ws′ ≡ sendWords ws k
+    pub send-done-words : (o : List ℕ) → o ≡ wordsOf (withSent (windowIn ws) k) → r ≡ 0 → o ≡ sendWords ws k
     unfolding sendWords sendOf
-    send-done-words ws′ p n =
-        let accepted : sendRefusal w k ≡ 0 = sym (ap (λ (x : SendAnswer). x .refusal) d) ∙ n in
-        p ∙ simp (← send-is, eq-eqb (a .refusal) 0 n, ← z, accepted)
+    send-done-words o p n = p ∙ simp (← send-is, eq-eqb r 0 n, ← refusal-is)
 
-  module _ (i c mask room : ℕ) (a : ReportAnswer) (d : a ≡ reportOf w i c mask room) where
-    pub report-is : a .refusal ≡ reportNumber ws i c mask room
-    unfolding reportNumber
-    report-is = simp (fit, ← z, ← d)
+  module _ (w : Window) (z : w ≡ windowIn ws) where
+    module _ (i c mask room : ℕ) (a : ReportAnswer) (d : a ≡ reportOf w i c mask room) where
+      pub report-is : a .refusal ≡ reportNumber ws i c mask room
+      unfolding reportNumber
+      report-is = simp (fit-known, ← z, ← d)
 
-    pub report-refused-words : (a .refusal ≡ 0 → ⊥) → ws ≡ reportWords ws i c mask room
-    unfolding reportWords
-    report-refused-words n = simp (← report-is, ne-eqb (a .refusal) 0 n)
+      pub report-refused-words : (a .refusal ≡ 0 → ⊥) → ws ≡ reportWords ws i c mask room
+      unfolding reportWords
+      report-refused-words n = simp (← report-is, ne-eqb (a .refusal) 0 n)
 
-    pub report-done : a .refusal ≡ 0 → 0 ≡ reportNumber ws i c mask room
-    report-done n = sym n ∙ report-is
+      pub report-done : a .refusal ≡ 0 → 0 ≡ reportNumber ws i c mask room
+      report-done n = sym n ∙ report-is
 
-    pub report-done-words : (ws′ : List ℕ) → ws′ ≡ wordsOf (a .window) → a .refusal ≡ 0 → ws′ ≡ reportWords ws i c mask room
-    unfolding reportWords
-    report-done-words ws′ p n = p ∙ simp (← report-is, eq-eqb (a .refusal) 0 n, ← z, ← d)
+      pub report-done-words : (o : List ℕ) → o ≡ wordsOf (a .window) → a .refusal ≡ 0 → o ≡ reportWords ws i c mask room
+      unfolding reportWords
+      report-done-words o p n = p ∙ simp (← report-is, eq-eqb (a .refusal) 0 n, ← z, ← d)
 
-    report-verdicts : a .verdicts ≡ reportVerdicts ws i c mask room
-    unfolding reportVerdicts
-    report-verdicts = simp (fit, ← z, ← d)
+      verdicts-are : a .verdicts ≡ reportVerdicts ws i c mask room
+      unfolding reportVerdicts
+      verdicts-are = simp (fit-known, ← z, ← d)
 
-    pub report-answer : a .verdicts ∷ [] ≡ reportVerdicts ws i c mask room ∷ []
-    report-answer = ap (λ (v : ℕ). v ∷ []) report-verdicts
+      pub report-answer : a .verdicts ∷ [] ≡ reportVerdicts ws i c mask room ∷ []
+      report-answer = ap (λ (v : ℕ). v ∷ []) verdicts-are
 
-  pub report-bytes : (i c mask : ℕ) (out o : List ℕ) → o ≡ reportOut w i c mask out → o ≡ reportBytes ws i c mask out
-  unfolding reportBytes
-  report-bytes i c mask out o p = p ∙ simp (fit, ← z)
+    pub report-bytes : (i c mask : ℕ) (out o : List ℕ) → o ≡ reportOut w i c mask out → o ≡ reportBytes ws i c mask out
+    unfolding reportBytes
+    report-bytes i c mask out o p = p ∙ simp (fit-known, ← z)

@@ -1,17 +1,16 @@
 -- The window's calls on a state that is kept in words: taken apart, judged, worked on, put back only when the call is accepted. A word too
 -- large for its field is 17. Assumes nothing.
-use mathlib.Core.Bool.{cond, _&&_}
+use mathlib.Core.Bool.{cond}
 use mathlib.Core.List.{List}
 use Prim.Native.Nat.{ℕ}
 use lib.Dec.{eqb}
-use Rattle.window.specs.Formed.{wellFormed}
 use Rattle.window.specs.Sending.{sendOf}
 use Rattle.window.specs.Answers.{reportOf, reportOut}
-use Rattle.words.specs.Taken.{fits, windowIn}
+use Rattle.words.specs.Taken.{fits, windowIn, formedIn}
 use Rattle.words.specs.Put.{wordsOf}
 
 unfoldable pub judgeNumber : List ℕ → ℕ
-judgeNumber ws = cond (fits ws && wellFormed (windowIn ws)) 0 17
+judgeNumber ws = cond (formedIn ws) 0 17
 
 -- Send: 17, 6, 10, 9
 unfoldable pub sendNumber : List ℕ → ℕ → ℕ

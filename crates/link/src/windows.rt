@@ -31,11 +31,7 @@ pub extern "C" fn havdorlek_open(
 pub extern "C" fn havdorlek_judge(window: &[u64; 457]) -> u32
     ensures { λ n. ⌜ n ≡ judgeNumber (now (window .entry)) ⌝ }
 {
-    if !words::fit(window) {
-        return 17;
-    }
-    let w = words::window_in(window);
-    if w.well_formed() { 0 } else { 17 }
+    if words::formed(window) { 0 } else { 17 }
 }
 
 // Sends message k.
@@ -43,13 +39,12 @@ pub extern "C" fn havdorlek_judge(window: &[u64; 457]) -> u32
 pub extern "C" fn havdorlek_send(window: &mut [u64; 457], k: u64) -> u32
     ensures { λ n. ⌜ (n ≡ sendNumber (now (window .entry)) k) × (now (window .exit) ≡ sendWords (now (window .entry)) k) ⌝ }
 {
-    if !words::fit(window) {
+    if !words::formed(window) {
         return 17;
     }
-    let w = words::window_in(window);
-    let a = w.send(k);
-    if a.refusal != 0 {
-        return a.refusal;
+    let refusal = window::next_refusal(window[135], window[136], k);
+    if refusal != 0 {
+        return refusal;
     }
     words::put_sent(k, window);
     0
@@ -67,12 +62,12 @@ pub extern "C" fn havdorlek_report(
 ) -> u32
     ensures { λ n. ⌜ (n ≡ reportNumber (now (window .entry)) member number mask (length (now (out .entry)))) × (now (window .exit) ≡ reportWords (now (window .entry)) member number mask (length (now (out .entry)))) × (now (out .exit) ≡ reportBytes (now (window .entry)) member number mask (now (out .entry))) × (now (answer .exit) ≡ reportVerdicts (now (window .entry)) member number mask (length (now (out .entry))) ∷ []) ⌝ }
 {
-    if !words::fit(window) {
+    if !words::formed(window) {
         *answer = [0];
         return 17;
     }
     let w = words::window_in(window);
-    let a = w.report(member, number, mask, out);
+    let a = w.report_judged(true, member, number, mask, out);
     *answer = [a.verdicts as u64];
     if a.refusal != 0 {
         return a.refusal;

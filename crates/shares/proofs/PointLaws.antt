@@ -1,17 +1,17 @@
 -- The point: it is reached, nothing larger is, it grows with the values, and it is found among the values alone. Assumes nothing.
 use mathlib.Core.Path.{_≡_, refl, ap, _∙_}
-use mathlib.Core.Bool.{Bool, true, cond, _&&_}
+use mathlib.Core.Bool.{Bool, true, cond, _&&_, _||_}
 use mathlib.Core.List.{List}
 use mathlib.Core.Logic.{_⊎_, inl, inr}
 use Prim.Native.Nat.{ℕ, zero, suc, _+_, _-_, _≤_, _<_, max, zero-le}
 use native.Mathlib.Decide.{decLe, decLt}
 use native.Mathlib.Numerals.{add-one}
 use native.Mathlib.Omega.{arith}
-use lib.Dec.{leb, ltb}
+use lib.Dec.{leb, ltb, eqb}
 use lib.ListN.{length, getD}
-use borrow.Author.Tests.{le-leb, lt-leb, leb-true, lt-ltb, le-ltb}
+use borrow.Author.Tests.{le-leb, lt-leb, leb-true, lt-ltb, le-ltb, ltb-true, eq-eqb, eqb-true}
 use Rattle.basics.specs.Sums.{highestBelow}
-use Rattle.basics.proofs.BoolLaws.{bool-cases, and-right, leb-same}
+use Rattle.basics.proofs.BoolLaws.{bool-cases, and-both, and-left, and-right, or-left, or-right, or-cases, same-test, leb-same}
 use Rattle.basics.proofs.SumLaws.{sum-zero, highest-at, highest-le}
 use Rattle.basics.proofs.LargestLaws.{largest-le, largest-passes, largest-above, largest-unique}
 use Rattle.shares.specs.Shares.{shareOf}
@@ -164,6 +164,39 @@ module _ (shares values : List ℕ) (t : ℕ) where
 pub reached-falls : (shares values : List ℕ) (g h : ℕ) → g ≤ h → reachedOf shares values h ≤ reachedOf shares values g
 unfolding reachedOf
 reached-falls shares values g h l = share-mono shares (λ i. leb h (getD values i 0)) (λ i. leb g (getD values i 0)) (λ i m e. le-leb g (getD values i 0) (omega (arith, leb-true h (getD values i 0) e)))
+
+-- the point is known by itself and the next number
+module _ (shares values : List ℕ) (t p here next : ℕ) (l : 1 ≤ t) (e : here ≡ reachedOf shares values p) (f : next ≡ reachedOf shares values (p + 1)) where
+  abbrev told : Bool
+  told = (eqb p 0 || leb t here) && ltb next t
+
+  is-point : told ≡ true → eqb p (pointOf shares values t) ≡ true
+  is-point h =
+      let missed : next < t = ltb-true next t (and-right (eqb p 0 || leb t here) (ltb next t) h) in
+      let below : p ≤ pointOf shares values t = elim (or-cases (eqb p 0) (leb t here) (and-left (eqb p 0 || leb t here) (ltb next t) h)) [
+        | inl z ↦ omega (arith, eqb-true p 0 z)
+        | inr y ↦ point-largest shares values t p l (omega (arith, e, leb-true t here y))
+      ] in
+      elim (decLe (pointOf shares values t) p) [
+        | yes m ↦ eq-eqb p (pointOf shares values t) (omega arith)
+        | no m ↦ absurd (omega (arith, f, reached-falls shares values (p + 1) (pointOf shares values t) (omega arith), point-reached shares values t (omega arith)))
+      ]
+
+  point-is : eqb p (pointOf shares values t) ≡ true → told ≡ true
+  point-is h =
+      let z : p ≡ pointOf shares values t = eqb-true p (pointOf shares values t) h in
+      and-both (eqb p 0 || leb t here) (ltb next t)
+      (elim (decLe 1 p) [
+        | yes m ↦ or-right (eqb p 0) (leb t here) (le-leb t here (rw (e, z) (point-reached shares values t (omega arith))))
+        | no m ↦ or-left (eqb p 0) (leb t here) (eq-eqb p 0 (omega arith))
+      ])
+      (elim (decLe t next) [
+        | yes m ↦ absurd (omega (arith, point-largest shares values t (p + 1) l (omega (arith, f))))
+        | no m ↦ lt-ltb next t (omega arith)
+      ])
+
+  pub point-told : told ≡ eqb p (pointOf shares values t)
+  point-told = same-test told (eqb p (pointOf shares values t)) is-point point-is
 
 -- where no value falls, as many reach each number, and the point does not fall
 module _ (shares before after : List ℕ) (up : (j : ℕ) → j < length shares → getD before j 0 ≤ getD after j 0) where

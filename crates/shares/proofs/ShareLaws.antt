@@ -4,13 +4,17 @@ use mathlib.Core.Path.{_≡_, refl, ap, sym, _∙_}
 use mathlib.Core.Bool.{Bool, true, false, cond, not, _||_}
 use mathlib.Core.List.{List, [], _∷_}
 use mathlib.Core.Logic.{_⊎_, inl, inr}
-use Prim.Native.Nat.{ℕ, zero, suc, _+_, _≤_, _<_, zero-le}
+use Prim.Native.Nat.{ℕ, zero, suc, _+_, _-_, _≤_, _<_, zero-le, min}
 use native.Mathlib.Omega.{arith}
+use mir.Syntax.{w64}
+use mir.Val.{Fits}
 use lib.ListN.{length, getD, take}
 use lib.Seq.{getD-take, length-take-le}
 use Rattle.basics.specs.Sums.{sumBelow}
 use Rattle.basics.proofs.BoolLaws.{bool-cases}
-use Rattle.basics.proofs.SumLaws.{sum-cong, sum-mono, sum-add, sum-front, sum-part}
+use Rattle.basics.proofs.SumLaws.{sum-tail, sum-cong, sum-mono, sum-add, sum-front, sum-part}
+use Rattle.marks.specs.Masks.{isMarked, reachOf}
+use Rattle.marks.proofs.RunLaws.{reach-above}
 use Rattle.shares.specs.Shares.{totalOf, shareOf}
 
 -- ---- how totals and shares go along the list
@@ -107,3 +111,21 @@ module _ (shares : List ℕ) where
       → (i : ℕ) × (i < length shares) × (p i ≡ true) × (failed i ≡ false)
   unfolding shareOf
   quorum u p failed h k = elim (found p failed (length shares)) [ inl w ↦ w | inr l ↦ absurd (omega arith) ]
+
+-- past the last that a set names nobody adds to its share
+module _ (shares : List ℕ) (members : ℕ) (fits : Fits w64 members) where
+  abbrev named : ℕ → ℕ
+  named i = cond (isMarked members i) (getD shares i 0) 0
+
+  unnamed : (j : ℕ) → reachOf members ≤ j → named j ≡ 0
+  unnamed j l = elim (bool-cases (isMarked members j)) [
+    | inl t ↦ absurd (omega (arith, reach-above members j (fits .fits) t))
+    | inr t ↦ simp t
+  ]
+
+  pub share-done : (i n r sum : ℕ) → sum ≡ sumBelow i named → i ≤ n → n ≤ i → r ≡ reachOf members → n ≡ min (length shares) r → sum ≡ shareOf shares (isMarked members)
+  unfolding shareOf
+  share-done i n r sum e a b f g =
+      let d : ℕ = length shares - i in
+      let z : i + d ≡ length shares = omega arith in
+      e ∙ sym (sum-tail named i d (λ j l m. unnamed j (omega arith))) ∙ ap (λ (m : ℕ). sumBelow m named) z

@@ -4,6 +4,7 @@ mod points;
 mod totals;
 
 pub use cluster::cluster_refusal;
+pub use points::is_point;
 pub use points::point;
 pub use totals::share;
 pub use totals::total;

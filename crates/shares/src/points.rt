@@ -2,7 +2,7 @@
 ghost use mathlib.Core.Path.{_≡_};
 ghost use mathlib.Core.Bool.{cond, _&&_};
 ghost use Prim.Native.Nat.{_<_, _≤_};
-ghost use lib.Dec.{leb, ltb};
+ghost use lib.Dec.{leb, ltb, eqb};
 ghost use lib.ListN.{length, getD};
 ghost use Rattle.shares.specs.Point.{reachedOf, pointOf};
 
@@ -67,4 +67,15 @@ pub fn point(shares: &[u32], values: &[u64], t: u64) -> u64
         i += 1;
     }
     best
+}
+
+// Whether p is that point: it is reached, or is 0, and the next number is not. Two passes, where finding it may take one for each value.
+// inner: as for the total; and a threshold of 0 would have no largest number.
+pub fn is_point(shares: &[u32], values: &[u64], t: u64, p: u64) -> bool
+    requires { ⌜ (length (now shares) ≤ 64) × (1 ≤ t) × (p ≤ 1000000000000) ⌝ }
+    ensures { λ r. ⌜ r ≡ eqb p (pointOf (now (shares .entry)) (now (values .entry)) t) ⌝ }
+{
+    let here = reached(shares, values, p);
+    let next = reached(shares, values, p + 1);
+    ((p == 0) | (t <= here)) & (next < t)
 }

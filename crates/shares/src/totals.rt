@@ -32,15 +32,16 @@ fn named_share(share: u32, members: u64, i: usize) -> u64
     }
 }
 
-// The share of a set of members, a bit for each.
+// The share of a set of members, a bit for each. Past the last that is named nobody is looked at.
 // inner: as for the total.
 pub fn share(shares: &[u32], members: u64) -> u64
     requires { ⌜ length (now shares) ≤ 64 ⌝ }
     ensures { λ r. ⌜ (r ≡ shareOf (now (shares .entry)) (isMarked members)) × (r < 64 * 4294967296) ⌝ }
 {
+    let past = basics::least(shares.len() as u64, marks::reach(members)) as usize;
     let mut sum: u64 = 0;
     let mut i = 0;
-    while i < shares.len() {
+    while i < past {
         sum += named_share(shares[i], members, i);
         i += 1;
     }

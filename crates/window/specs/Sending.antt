@@ -19,6 +19,10 @@ sendRefusal w k =
     ∷ (leb k (w .downstream .point + 64) else 9)
     ∷ [])
 
+-- what is left of that in a well-formed state, by its S and p
+unfoldable pub nextRefusal : ℕ → ℕ → ℕ → ℕ
+nextRefusal sent point k = firstFailing ((isMessage k else 6) ∷ (eqb k (sent + 1) else 10) ∷ (leb k (point + 64) else 9) ∷ [])
+
 -- k is sent. Its entry starts with resend count 0 and no complaints: it lay outside p + 1 to S, and so is empty already
 abbrev pub withSent : Window → ℕ → Window
 withSent w k = record { sending = w .sending; quantum = w .quantum; sent = k; downstream = w .downstream }

@@ -8,4 +8,5 @@ mod state;
 pub use opening::OpenAnswer;
 pub use reporting::ReportAnswer;
 pub use sending::SendAnswer;
+pub use sending::next_refusal;
 pub use state::Window;

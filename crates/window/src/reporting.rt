@@ -4,6 +4,7 @@ use downstream::Cluster;
 use downstream::Downstream;
 ghost use mathlib.Core.Path.{_≡_};
 ghost use lib.ListN.{length};
+ghost use Rattle.window.specs.Formed.{wellFormed};
 ghost use Rattle.window.specs.Reporting.{reportRefusal, Reportable};
 ghost use Rattle.window.specs.Answers.{stepOf, stepOut, reportOf, reportOut};
 
@@ -15,10 +16,11 @@ pub struct ReportAnswer {
 }
 
 // The refusal that a report gets: 17, 5, 8, 12, 11, 13 in this order, 0 for none.
-fn report_refusal(w: Window, i: u32, c: u64, mask: u64, room: usize) -> u32
+fn report_refusal(w: Window, formed: bool, i: u32, c: u64, mask: u64, room: usize) -> u32
+    requires { ⌜ formed ≡ wellFormed w ⌝ }
     ensures { λ r. ⌜ r ≡ reportRefusal w i c mask room ⌝ }
 {
-    if !w.well_formed() {
+    if !formed {
         return 17;
     }
     if room < 1_024 {
@@ -77,7 +79,24 @@ impl Window {
     pub fn report(mut self, member: u32, number: u64, mask: u64, out: &mut [u8]) -> ReportAnswer
         ensures { λ r. ⌜ (r ≡ reportOf self member number mask (length (now (out .entry)))) × (now (out .exit) ≡ reportOut self member number mask (now (out .entry))) ⌝ }
     {
-        let refusal = report_refusal(self, member, number, mask, out.len());
+        let formed = self.well_formed();
+        self.report_judged(formed, member, number, mask, out)
+    }
+
+    // The same, the state being judged already.
+    // inner: for a caller that has judged the state where it lies.
+    pub fn report_judged(
+        mut self,
+        formed: bool,
+        member: u32,
+        number: u64,
+        mask: u64,
+        out: &mut [u8],
+    ) -> ReportAnswer
+        requires { ⌜ formed ≡ wellFormed self ⌝ }
+        ensures { λ r. ⌜ (r ≡ reportOf self member number mask (length (now (out .entry)))) × (now (out .exit) ≡ reportOut self member number mask (now (out .entry))) ⌝ }
+    {
+        let refusal = report_refusal(self, formed, member, number, mask, out.len());
         if refusal != 0 {
             return ReportAnswer {
                 refusal,

@@ -1,11 +1,30 @@
 // Sending.
 use crate::state::Window;
 ghost use mathlib.Core.Path.{_≡_};
-ghost use Rattle.window.specs.Sending.{sendRefusal, sendOf};
+ghost use Prim.Native.Nat.{_≤_};
+ghost use Rattle.window.specs.Sending.{nextRefusal, sendRefusal, sendOf};
 
 pub struct SendAnswer {
     pub refusal: u32,
     pub window: Window,
+}
+
+// The refusal that message k gets after S and p of a well-formed state: 6, 10, 9, 0 for none.
+// inner: S and p of a well-formed state leave room above them.
+pub fn next_refusal(sent: u64, point: u64, k: u64) -> u32
+    requires { ⌜ (sent ≤ 1000000000000) × (point ≤ 1000000000000) ⌝ }
+    ensures { λ r. ⌜ r ≡ nextRefusal sent point k ⌝ }
+{
+    if !basics::is_message(k) {
+        return 6;
+    }
+    if k != sent + 1 {
+        return 10;
+    }
+    if point + 64 < k {
+        return 9;
+    }
+    0
 }
 
 fn send_refusal(w: Window, k: u64) -> u32
@@ -14,16 +33,7 @@ fn send_refusal(w: Window, k: u64) -> u32
     if !w.well_formed() {
         return 17;
     }
-    if !basics::is_message(k) {
-        return 6;
-    }
-    if k != w.sent + 1 {
-        return 10;
-    }
-    if w.downstream.point + 64 < k {
-        return 9;
-    }
-    0
+    next_refusal(w.sent, w.downstream.point, k)
 }
 
 impl Window {

@@ -53,13 +53,13 @@ module _ (c : Cluster) (places : length (c .shares) ≡ 64) (h : clusterKept c �
   unfolding placesZero
   small-share i l = elim (decLt i (c .members)) [
     | yes m ↦
-      (let inside : i < length (sharesOf c) = rw length-take (omega (arith, places)) in
-      let at : getD (sharesOf c) i 0 ≡ getD (c .shares) i 0 = getD-take (c .members) (c .shares) i 0 m in
-      omega (arith, at, accepted .small-share i inside))
+        (let inside : i < length (sharesOf c) = rw length-take (omega (arith, places)) in
+        let at : getD (sharesOf c) i 0 ≡ getD (c .shares) i 0 = getD-take (c .members) (c .shares) i 0 m in
+        omega (arith, at, accepted .small-share i inside))
     | no m ↦
-      (let z : (ltb i (c .members) || eqb (getD (c .shares) i 0) 0) ≡ true = all-at (λ j. ltb j (c .members) || eqb (getD (c .shares) j 0) 0) 64 rest-zero i l in
-      let e : getD (c .shares) i 0 ≡ 0 = eqb-true _ _ (simp (le-ltb i (c .members) (omega arith)) at z) in
-      omega (arith, e))
+        (let z : (ltb i (c .members) || eqb (getD (c .shares) i 0) 0) ≡ true = all-at (λ j. ltb j (c .members) || eqb (getD (c .shares) j 0) 0) 64 rest-zero i l in
+        let e : getD (c .shares) i 0 ≡ 0 = eqb-true _ _ (simp (le-ltb i (c .members) (omega arith)) at z) in
+        omega (arith, e))
   ]
 
 -- ---- so are the resend counts
@@ -76,12 +76,12 @@ module _ (d : Downstream) (s : ℕ) (h : downstreamKept d s ≡ true) where
   entry-small : (k : ℕ) (e : Entry) → entryKept n numbers masks s k e ≡ true → e .count ≤ 4294967295
   entry-small k e kept = elim (decLt s k) [
     | yes l ↦
-      (let closed : (eqb (e .count) 0 && eqb (e .complaints) 0) ≡ true = simp (lt-leb k s l) at kept in
-      let z : e .count ≡ 0 = eqb-true _ _ (and-left (eqb (e .count) 0) (eqb (e .complaints) 0) closed) in
-      omega (arith, z))
+        (let closed : (eqb (e .count) 0 && eqb (e .complaints) 0) ≡ true = simp (lt-leb k s l) at kept in
+        let z : e .count ≡ 0 = eqb-true _ _ (and-left (eqb (e .count) 0) (eqb (e .complaints) 0) closed) in
+        omega (arith, z))
     | no l ↦
-      (let opened : (leb (e .count) 255 && complaintsKept n numbers masks k (e .complaints)) ≡ true = simp (le-leb k s (omega arith)) at kept in
-      omega (arith, leb-true (e .count) 255 (and-left (leb (e .count) 255) (complaintsKept n numbers masks k (e .complaints)) opened)))
+        (let opened : (leb (e .count) 255 && complaintsKept n numbers masks k (e .complaints)) ≡ true = simp (le-leb k s (omega arith)) at kept in
+        omega (arith, leb-true (e .count) 255 (and-left (leb (e .count) 255) (complaintsKept n numbers masks k (e .complaints)) opened)))
   ]
 
   small-count : (j : ℕ) → j < 64 → getD (d .entries) j noEntry .count ≤ 4294967295

@@ -9,6 +9,7 @@ use Rattle.downstream.specs.declared.state.Cluster.{Cluster}
 use Rattle.downstream.specs.declared.state.Report.{Report}
 use Rattle.downstream.specs.declared.state.Entry.{Entry}
 use Rattle.window.specs.declared.state.Window.{Window}
+use Rattle.window.specs.Formed.{wellFormed}
 use Rattle.words.specs.Places.{sendingAt, receivingAt, quantumAt, sentAt, pointAt, numbersAt, masksAt, heardAt, countsAt, complaintsAt, most32}
 
 -- the word at a place
@@ -53,3 +54,7 @@ windowIn ws =
       sent = wordAt ws sentAt;
       downstream = record { cluster = clusterAt ws receivingAt; point = wordAt ws pointAt; reports = reportsIn ws; entries = entriesIn ws };
     }
+
+-- a well-formed state stands in the words
+unfoldable pub formedIn : List ℕ → Bool
+formedIn ws = fits ws && wellFormed (windowIn ws)

@@ -7,7 +7,7 @@ use window::Window;
 ghost use mathlib.Core.Path.{_≡_};
 ghost use mathlib.Core.Bool.{true};
 ghost use Prim.Native.Nat.{_+_, _≤_};
-ghost use Rattle.words.specs.Taken.{noneAbove, fits, columnAt, clusterAt, reportsIn, entriesIn, windowIn};
+ghost use Rattle.words.specs.Taken.{wordAt, noneAbove, fits, columnAt, clusterAt, reportsIn, entriesIn, windowIn};
 
 // Whether n words from a place on are at most so large.
 fn none_above(words: &[u64; 457], from: usize, n: usize, most: u64) -> bool
@@ -24,7 +24,7 @@ fn none_above(words: &[u64; 457], from: usize, n: usize, most: u64) -> bool
 }
 
 // Whether no word is too large for its field.
-pub fn fit(words: &[u64; 457]) -> bool
+pub(crate) fn fit(words: &[u64; 457]) -> bool
     ensures { λ r. ⌜ r ≡ fits (now (words .entry)) ⌝ }
 {
     let clusters = none_above(words, 0, 135, 4_294_967_295);
@@ -48,7 +48,7 @@ fn shares_at(words: &[u64; 457], at: usize) -> [u32; 64]
     shares
 }
 
-fn cluster_at(words: &[u64; 457], at: usize) -> Cluster
+pub(crate) fn cluster_at(words: &[u64; 457], at: usize) -> Cluster
     requires { ⌜ (at + 67 ≤ 135) × (fits (now words) ≡ true) ⌝ }
     ensures { λ r. ⌜ r ≡ clusterAt (now (words .entry)) at ⌝ }
 {
@@ -104,6 +104,13 @@ fn entries_in(words: &[u64; 457]) -> [Entry; 64]
     entries
 }
 
+pub(crate) fn quantum_in(words: &[u64; 457]) -> u32
+    requires { ⌜ fits (now words) ≡ true ⌝ }
+    ensures { λ r. ⌜ r ≡ wordAt (now (words .entry)) 134 ⌝ }
+{
+    words[134] as u32
+}
+
 // The state that stands in the words.
 // inner: for a caller that has asked whether the words fit.
 pub fn window_in(words: &[u64; 457]) -> Window
@@ -114,7 +121,7 @@ pub fn window_in(words: &[u64; 457]) -> Window
     let cluster = cluster_at(words, 67);
     let reports = reports_in(words);
     let entries = entries_in(words);
-    let quantum = words[134];
+    let quantum = quantum_in(words);
     let downstream = Downstream {
         cluster,
         point: words[136],
@@ -123,7 +130,7 @@ pub fn window_in(words: &[u64; 457]) -> Window
     };
     Window {
         sending,
-        quantum: quantum as u32,
+        quantum,
         sent: words[135],
         downstream,
     }

@@ -28,8 +28,8 @@ masks-of-requires c κs = search needs
 reports-kept-requires : tie.Need-reports-kept-requires
 reports-kept-requires c κs = search needs
 
-point-from-requires : tie.Need-point-from-requires
-point-from-requires c κs = search downs
+point-kept-requires : tie.Need-point-kept-requires
+point-kept-requires c κs = (search downs, search downs)
 
 entries-kept-requires : tie.Need-entries-kept-requires
 entries-kept-requires c κs = (search downs, search downs)
@@ -49,6 +49,6 @@ downstream-kept-spec =
     numbers-of-requires
     masks-of-requires
     reports-kept-requires
-    point-from-requires
+    point-kept-requires
     entries-kept-requires
     returns-3)

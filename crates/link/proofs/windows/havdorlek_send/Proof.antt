@@ -1,43 +1,43 @@
--- Words that do not fit are 17 and stay; so do those of a refused call; an accepted one puts S alone.
-use Rattle.basics.proofs.BoolLaws.{tests}
-use Rattle.link.proofs.WindowLaws.{fit-known, send-unfit, send-unfit-words, send-is, send-refused-words, send-done, send-done-words}
+-- Ill-formed words are 17 and stay; so do those of a refused call; an accepted one puts S alone.
+use Rattle.link.proofs.WindowLaws.{fit-known, sent-in-range, point-in-range, send-ill, send-ill-words, send-is, send-refused-words, send-done, send-done-words}
+use borrow.Author.Tests.{not-true, not-false}
 use borrow.Author.Needs.{needs}
 use Rattle.link.proofs.windows.havdorlek_send.Statement.{statement}
 use Rattle.link.proofs.windows.havdorlek_send.Tie as tie
-use Rattle.window.proofs.state.Window.send.Reads as send-reads
-use Rattle.words.proofs.put_sent.Reads as put-sent-reads
-use Rattle.words.proofs.fit.Reads as fit-reads
-use Rattle.words.proofs.window_in.Reads as window-in-reads
 
-fit-requires : tie.Need-fit-requires
-fit-requires c κs = search needs
+formed-requires : tie.Need-formed-requires
+formed-requires c κs = search needs
 
 returns : tie.Need-returns
-returns c = (search (send-unfit, tests, needs), search (send-unfit-words, tests, needs))
+returns c = (search (send-ill, not-true), search (send-ill-words, not-true))
 
-window-in-requires : tie.Need-window-in-requires
-window-in-requires c κs = search (fit-known, tests, needs)
+element-copy-out-next-refusal : tie.Need-element-copy-out-next-refusal
+element-copy-out-next-refusal c = search needs
 
-send-requires : tie.Need-send-requires
-send-requires c κs = search needs
+element-copy-out-next-refusal-2 : tie.Need-element-copy-out-next-refusal-2
+element-copy-out-next-refusal-2 c = search needs
+
+next-refusal-requires : tie.Need-next-refusal-requires
+next-refusal-requires c κs = (search (sent-in-range, not-false), search (point-in-range, not-false))
 
 returns-2 : tie.Need-returns-2
-returns-2 c = (search (send-is, tests, needs), search (send-refused-words, tests, needs))
+returns-2 c = (search (send-is, not-false), search (send-refused-words, not-false))
 
 put-sent-requires : tie.Need-put-sent-requires
-put-sent-requires c κs = search (fit-known, tests, needs)
+put-sent-requires c κs = search (fit-known, not-false)
 
 returns-3 : tie.Need-returns-3
-returns-3 c = (search (send-done, tests, needs), search (send-done-words, tests, needs))
+returns-3 c = (search (send-done, not-false), search (send-done-words, not-false))
 
 pub havdorlek-send-spec : {M : Type 1} → statement M
 havdorlek-send-spec =
     tie.close
     (tie.spec
-    fit-requires
+    formed-requires
     returns
-    window-in-requires
-    send-requires
+    element-copy-out-next-refusal
+    element-copy-out-next-refusal-2
+    next-refusal-requires
     returns-2
     put-sent-requires
     returns-3)

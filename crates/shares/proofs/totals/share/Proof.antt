@@ -1,24 +1,30 @@
 -- The invariant: `sum` is that of the named members before place i, and each share has 32 bits.
-use Prim.Native.Nat.{_≤_, _-_, _*_}
-use mathlib.Core.Path.{_≡_}
-use lib.ListN.{length, getD}
-use Rattle.basics.specs.Sums.{sumBelow}
-use Rattle.basics.proofs.SumLaws.{sums}
+use Rattle.shares.proofs.ShareLaws.{share-done}
+use Rattle.marks.specs.Masks.{isMarked, reachOf}
 use mathlib.Core.Bool.{cond}
-use Rattle.marks.specs.Masks.{isMarked}
-use Rattle.shares.specs.Shares.{shareOf}
+use Rattle.basics.proofs.SumLaws.{sums}
+use Rattle.basics.specs.Sums.{sumBelow}
+use lib.ListN.{length, getD}
+use mathlib.Core.Path.{_≡_}
+use Prim.Native.Nat.{_≤_, _-_, _*_, min}
 use borrow.Author.Needs.{needs}
 use Rattle.shares.proofs.totals.share.Statement.{statement}
 use Rattle.shares.proofs.totals.share.Tie as tie
 
 abbrev Inv-loop : tie.InvT-loop
-Inv-loop shares members sum₀ i₀ sum i = (i ≤ length shares) × (length shares ≤ 64) × (sum ≡ sumBelow i (λ j. cond (isMarked members j) (getD shares j 0) 0)) × (sum ≤ i * 4294967295)
+Inv-loop shares members past sum₀ i₀ sum i = (i ≤ past) × (past ≤ length shares) × (length shares ≤ 64) × (past ≡ min (length shares) (reachOf members)) × (sum ≡ sumBelow i (λ j. cond (isMarked members j) (getD shares j 0) 0)) × (sum ≤ i * 4294967295)
 
 abbrev μ-loop : tie.MeasureT-loop
-μ-loop shares members sum₀ i₀ sum i = length shares - i
+μ-loop shares members past sum₀ i₀ sum i = past - i
+
+reach-requires : tie.Need-reach-requires Inv-loop μ-loop
+reach-requires c κs = search needs
+
+least-requires : tie.Need-least-requires Inv-loop μ-loop
+least-requires c κs = search needs
 
 loop-holds : tie.Need-loop-holds Inv-loop μ-loop
-loop-holds c = search sums
+loop-holds c = (search needs, search needs, search needs, search needs, search sums, search needs)
 
 mul-named-share : tie.Need-mul-named-share Inv-loop μ-loop
 mul-named-share c = search needs
@@ -39,11 +45,10 @@ loop-less : tie.Need-loop-less Inv-loop μ-loop
 loop-less c = search needs
 
 loop-again : tie.Need-loop-again Inv-loop μ-loop
-loop-again c = search sums
+loop-again c = (search needs, search needs, search needs, search needs, search sums, search needs)
 
 returns : tie.Need-returns Inv-loop μ-loop
-unfolding shareOf
-returns c = (search sums, search needs)
+returns c = (search share-done, search needs)
 
 pub share-spec : {M : Type 1} → statement M
 share-spec =
@@ -51,6 +56,8 @@ share-spec =
     (tie.spec
     Inv-loop
     μ-loop
+    reach-requires
+    least-requires
     loop-holds
     mul-named-share
     shared-slice-read-named-share

@@ -1,12 +1,9 @@
 -- Each answer is that of the first check that fails.
-use borrow.Author.Tests.{not-true, not-false}
 use Rattle.window.proofs.RefusalLaws.{member-place, report-17, report-5, report-8, report-12, report-11, report-13, report-0}
+use borrow.Author.Tests.{not-true, not-false}
 use borrow.Author.Needs.{needs}
 use Rattle.window.proofs.reporting.report_refusal.Statement.{statement}
 use Rattle.window.proofs.reporting.report_refusal.Tie as tie
-
-well-formed-requires : tie.Need-well-formed-requires
-well-formed-requires c κs = search needs
 
 returns : tie.Need-returns
 returns c = search (report-17, not-true)
@@ -48,7 +45,6 @@ pub report-refusal-spec : {M : Type 1} → statement M
 report-refusal-spec =
     tie.close
     (tie.spec
-    well-formed-requires
     returns
     returns-2
     returns-3
