@@ -1,4 +1,5 @@
 -- The laws of the exported calls. Assumes nothing.
+pub mod NumberLaws
 pub mod RecordLaws
 pub mod WindowLaws
 pub mod Stored

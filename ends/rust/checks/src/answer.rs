@@ -69,7 +69,13 @@ impl Answer {
     }
 
     pub fn text(&self, call: &Call) -> String {
-        let Answer { returned, numbers, state, places, bytes } = self;
+        let Answer {
+            returned,
+            numbers,
+            state,
+            places,
+            bytes,
+        } = self;
         let answer = || format!("answer={}", numbers_text(numbers, Base::Decimal));
         match call {
             Call::Counts { .. } => format!("{returned} out={}", numbers_text(places, Base::Decimal)),
@@ -93,7 +99,10 @@ impl Answer {
     }
 
     fn window_text(&self, call: &Call) -> String {
-        if call.altered_window().is_some_and(|before| before.as_slice() == self.state) {
+        if call
+            .altered_window()
+            .is_some_and(|before| before.as_slice() == self.state)
+        {
             "same".to_string()
         } else {
             window_text(&self.window())
@@ -102,7 +111,10 @@ impl Answer {
 
     /// Reads the words after `->`.
     pub fn parse(call: &Call, tokens: &mut Tokens) -> Parsed<Answer> {
-        let mut answer = Answer { returned: number(tokens.word()?)?, ..Answer::default() };
+        let mut answer = Answer {
+            returned: number(tokens.word()?)?,
+            ..Answer::default()
+        };
         match call {
             Call::Counts { .. } => answer.places = tokens.numbers("out")?,
             Call::FirstPair { .. } | Call::ResendPair { .. } | Call::ReceiverReport { .. } | Call::Read { .. } => {
@@ -150,7 +162,9 @@ fn window_after(call: &Call, tokens: &mut Tokens) -> Parsed<Vec<u64>> {
 }
 
 fn refused_number(text: &[u8]) -> u64 {
-    let refused = std::str::from_utf8(text).ok().and_then(|text| text.strip_prefix("refused "));
+    let refused = std::str::from_utf8(text)
+        .ok()
+        .and_then(|text| text.strip_prefix("refused "));
     refused.and_then(|number| number.trim_end().parse().ok()).unwrap_or(0)
 }
 

@@ -65,19 +65,58 @@ pub struct Link {
 
 #[derive(Clone, Debug, PartialEq, Eq)]
 pub enum Call {
-    Counts { cluster: Cluster, q: u32, room: usize },
-    FirstPair { link: Link, k: u64 },
-    ResendPair { link: Link, k: u64, n: u32 },
-    Open { link: Link },
-    Judge { window: Box<Words> },
-    Send { window: Box<Words>, k: u64 },
-    Report { window: Box<Words>, member: u32, number: u64, mask: u64, room: usize },
+    Counts {
+        cluster: Cluster,
+        q: u32,
+        room: usize,
+    },
+    FirstPair {
+        link: Link,
+        k: u64,
+    },
+    ResendPair {
+        link: Link,
+        k: u64,
+        n: u32,
+    },
+    Open {
+        link: Link,
+    },
+    Judge {
+        window: Box<Words>,
+    },
+    Send {
+        window: Box<Words>,
+        k: u64,
+    },
+    Report {
+        window: Box<Words>,
+        member: u32,
+        number: u64,
+        mask: u64,
+        room: usize,
+    },
     Fresh,
-    Arrive { holdings: [u64; 2], k: u64 },
-    ReceiverReport { holdings: [u64; 2] },
-    Read { bytes: Vec<u8> },
-    Write { kind: u8, member: u8, number: u64, mask: u64, room: usize },
-    Plan { input: Vec<u8> },
+    Arrive {
+        holdings: [u64; 2],
+        k: u64,
+    },
+    ReceiverReport {
+        holdings: [u64; 2],
+    },
+    Read {
+        bytes: Vec<u8>,
+    },
+    Write {
+        kind: u8,
+        member: u8,
+        number: u64,
+        mask: u64,
+        room: usize,
+    },
+    Plan {
+        input: Vec<u8>,
+    },
 }
 
 impl Call {
@@ -113,20 +152,45 @@ impl Call {
         Ok(match tokens.word()? {
             "counts" => {
                 let cluster = cluster(tokens, "shares")?;
-                Call::Counts { cluster, q: tokens.number("q")?, room: tokens.room()? }
+                Call::Counts {
+                    cluster,
+                    q: tokens.number("q")?,
+                    room: tokens.room()?,
+                }
             }
-            "first_pair" => Call::FirstPair { link: link(tokens)?, k: tokens.number("k")? },
-            "resend_pair" => Call::ResendPair { link: link(tokens)?, k: tokens.number("k")?, n: tokens.number("n")? },
+            "first_pair" => Call::FirstPair {
+                link: link(tokens)?,
+                k: tokens.number("k")?,
+            },
+            "resend_pair" => Call::ResendPair {
+                link: link(tokens)?,
+                k: tokens.number("k")?,
+                n: tokens.number("n")?,
+            },
             "open" => Call::Open { link: link(tokens)? },
-            "judge" => Call::Judge { window: window(tokens)? },
-            "send" => Call::Send { window: window(tokens)?, k: tokens.number("k")? },
+            "judge" => Call::Judge {
+                window: window(tokens)?,
+            },
+            "send" => Call::Send {
+                window: window(tokens)?,
+                k: tokens.number("k")?,
+            },
             "report" => parse_report(tokens)?,
             "fresh" => Call::Fresh,
-            "arrive" => Call::Arrive { holdings: holdings(tokens)?, k: tokens.number("k")? },
-            "receiver_report" => Call::ReceiverReport { holdings: holdings(tokens)? },
-            "read" => Call::Read { bytes: tokens.bytes("bytes")? },
+            "arrive" => Call::Arrive {
+                holdings: holdings(tokens)?,
+                k: tokens.number("k")?,
+            },
+            "receiver_report" => Call::ReceiverReport {
+                holdings: holdings(tokens)?,
+            },
+            "read" => Call::Read {
+                bytes: tokens.bytes("bytes")?,
+            },
             "write" => parse_write(tokens)?,
-            "plan" => Call::Plan { input: tokens.bytes("input")? },
+            "plan" => Call::Plan {
+                input: tokens.bytes("input")?,
+            },
             name => return Err(format!("there is no call `{name}`")),
         })
     }
@@ -153,12 +217,20 @@ fn parse_write(tokens: &mut Tokens) -> Parsed<Call> {
 }
 
 fn cluster(tokens: &mut Tokens, name: &str) -> Parsed<Cluster> {
-    Ok(Cluster { shares: tokens.numbers(name)?, u: tokens.number("u")?, r: tokens.number("r")? })
+    Ok(Cluster {
+        shares: tokens.numbers(name)?,
+        u: tokens.number("u")?,
+        r: tokens.number("r")?,
+    })
 }
 
 fn link(tokens: &mut Tokens) -> Parsed<Link> {
     let (sending, receiving) = (cluster(tokens, "sending")?, cluster(tokens, "receiving")?);
-    Ok(Link { sending, receiving, q: tokens.number("q")? })
+    Ok(Link {
+        sending,
+        receiving,
+        q: tokens.number("q")?,
+    })
 }
 
 fn window(tokens: &mut Tokens) -> Parsed<Box<Words>> {
@@ -169,7 +241,9 @@ fn window(tokens: &mut Tokens) -> Parsed<Box<Words>> {
 /// Reads `holdings=NUMBER,MASK`.
 pub fn holdings(tokens: &mut Tokens) -> Parsed<[u64; 2]> {
     let words: Vec<u64> = tokens.numbers("holdings")?;
-    words.try_into().map_err(|_| "holdings are a number and a mask".to_string())
+    words
+        .try_into()
+        .map_err(|_| "holdings are a number and a mask".to_string())
 }
 
 pub fn holdings_text(&[number, mask]: &[u64; 2]) -> String {
@@ -181,7 +255,11 @@ fn cluster_text(name: &str, Cluster { shares, u, r }: &Cluster) -> String {
 }
 
 fn link_text(Link { sending, receiving, q }: &Link) -> String {
-    format!("{} {} q={q}", cluster_text("sending", sending), cluster_text("receiving", receiving))
+    format!(
+        "{} {} q={q}",
+        cluster_text("sending", sending),
+        cluster_text("receiving", receiving)
+    )
 }
 
 impl Display for Call {
@@ -196,15 +274,34 @@ impl Display for Call {
             Call::Open { link } => write!(to, " {}", link_text(link)),
             Call::Judge { window } => write!(to, " {}", window_text(window)),
             Call::Send { window, k } => write!(to, " {} k={k}", window_text(window)),
-            Call::Report { window, member, number, mask, room } => {
-                write!(to, " {} member={member} number={number} mask={mask:#x} room={room}", window_text(window))
+            Call::Report {
+                window,
+                member,
+                number,
+                mask,
+                room,
+            } => {
+                write!(
+                    to,
+                    " {} member={member} number={number} mask={mask:#x} room={room}",
+                    window_text(window)
+                )
             }
             Call::Fresh => Ok(()),
             Call::Arrive { holdings, k } => write!(to, " {} k={k}", holdings_text(holdings)),
             Call::ReceiverReport { holdings } => write!(to, " {}", holdings_text(holdings)),
             Call::Read { bytes } => write!(to, " bytes={}", bytes_text(bytes, RECORD_BYTES)),
-            Call::Write { kind, member, number, mask, room } => {
-                write!(to, " kind={kind} member={member} number={number} mask={mask:#x} room={room}")
+            Call::Write {
+                kind,
+                member,
+                number,
+                mask,
+                room,
+            } => {
+                write!(
+                    to,
+                    " kind={kind} member={member} number={number} mask={mask:#x} room={room}"
+                )
             }
             Call::Plan { input } => write!(to, " input={}", bytes_text(input, PLAN_RECORD_BYTES)),
         }

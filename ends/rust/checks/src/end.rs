@@ -1,4 +1,5 @@
-//! The two ends that are held against each other, the library and the reference, and how a call is run on one of them.
+//! The ends that are held against each other, the library, the reference and what the benchmark measures with, and how a call
+//! is run on one of them.
 
 use crate::answer::Answer;
 use crate::call::{Call, Cluster, Link};
@@ -36,6 +37,9 @@ pub struct Library;
 /// The independent twin.
 pub struct Reference;
 
+/// What the library is measured against, which is worth nothing as a measure where it answers otherwise.
+pub struct Tuned;
+
 /// Makes a struct an end that passes each call on to the function of that name in a module.
 macro_rules! pass_on {
     ($end:ident, $calls:ident) => {
@@ -43,14 +47,35 @@ macro_rules! pass_on {
             fn counts(&self, Cluster { shares, u, r }: &Cluster, q: u32, out: &mut [u32]) -> u32 {
                 $calls::counts(shares, *u, *r, q, out)
             }
-            fn first_pair(&self, Link { sending: s, receiving: r, q }: &Link, k: u64, answer: &mut [u64; 2]) -> u32 {
+            fn first_pair(
+                &self,
+                Link {
+                    sending: s,
+                    receiving: r,
+                    q,
+                }: &Link,
+                k: u64,
+                answer: &mut [u64; 2],
+            ) -> u32 {
                 $calls::first_pair(&s.shares, s.u, s.r, &r.shares, r.u, r.r, *q, k, answer)
             }
             fn resend_pair(&self, link: &Link, k: u64, n: u32, answer: &mut [u64; 3]) -> u32 {
-                let Link { sending: s, receiving: r, q } = link;
+                let Link {
+                    sending: s,
+                    receiving: r,
+                    q,
+                } = link;
                 $calls::resend_pair(&s.shares, s.u, s.r, &r.shares, r.u, r.r, *q, k, n, answer)
             }
-            fn open(&self, Link { sending: s, receiving: r, q }: &Link, window: &mut Words) -> u32 {
+            fn open(
+                &self,
+                Link {
+                    sending: s,
+                    receiving: r,
+                    q,
+                }: &Link,
+                window: &mut Words,
+            ) -> u32 {
                 $calls::open(&s.shares, s.u, s.r, &r.shares, r.u, r.r, *q, window)
             }
             fn judge(&self, window: &Words) -> u32 {
@@ -93,6 +118,7 @@ macro_rules! pass_on {
 
 pass_on!(Library, library);
 pass_on!(Reference, reference);
+pass_on!(Tuned, tuned);
 
 /// Runs a call on an end and tells everything that is there afterwards.
 pub fn run(end: &impl End, call: &Call) -> Answer {
@@ -100,16 +126,27 @@ pub fn run(end: &impl End, call: &Call) -> Answer {
         Call::Counts { cluster, q, room } => {
             let mut places = vec![FILLED_PLACE; *room];
             let returned = end.counts(cluster, *q, &mut places).into();
-            Answer { returned, places, ..Answer::default() }
+            Answer {
+                returned,
+                places,
+                ..Answer::default()
+            }
         }
         Call::FirstPair { link, k } => answered(|answer| end.first_pair(link, *k, answer)),
         Call::ResendPair { link, k, n } => answered(|answer| end.resend_pair(link, *k, *n, answer)),
         Call::Open { link } => altered(&[FILLED_WORD; WORDS], |window| end.open(link, window)),
-        Call::Judge { window } => Answer { returned: end.judge(window).into(), ..Answer::default() },
+        Call::Judge { window } => Answer {
+            returned: end.judge(window).into(),
+            ..Answer::default()
+        },
         Call::Send { window, k } => altered(window, |window| end.send(window, *k)),
-        Call::Report { window, member, number, mask, room } => {
-            run_report(end, window, (*member, *number, *mask), *room)
-        }
+        Call::Report {
+            window,
+            member,
+            number,
+            mask,
+            room,
+        } => run_report(end, window, (*member, *number, *mask), *room),
         Call::Fresh => altered(&[FILLED_WORD; 2], |holdings| {
             end.fresh(holdings);
             0
@@ -117,9 +154,13 @@ pub fn run(end: &impl End, call: &Call) -> Answer {
         Call::Arrive { holdings, k } => altered(holdings, |holdings| end.arrive(holdings, *k)),
         Call::ReceiverReport { holdings } => answered(|answer| end.receiver_report(holdings, answer)),
         Call::Read { bytes } => answered(|answer| end.read(bytes, answer)),
-        Call::Write { kind, member, number, mask, room } => {
-            written(*room, |out| end.write((*kind, *member, *number, *mask), out).into())
-        }
+        Call::Write {
+            kind,
+            member,
+            number,
+            mask,
+            room,
+        } => written(*room, |out| end.write((*kind, *member, *number, *mask), out).into()),
         Call::Plan { input } => written(PLAN_BYTES, |out| {
             let out = out.try_into().expect("the output has a plan's bytes");
             end.plan(input, out) as u64
@@ -130,26 +171,44 @@ pub fn run(end: &impl End, call: &Call) -> Answer {
 fn run_report(end: &impl End, window: &Words, report: (u32, u64, u64), room: usize) -> Answer {
     let (mut after, mut bytes, mut numbers) = (*window, vec![FILL; room], [FILLED_WORD]);
     let returned = end.report(&mut after, report, &mut bytes, &mut numbers).into();
-    Answer { returned, numbers: numbers.to_vec(), state: after.to_vec(), bytes, ..Answer::default() }
+    Answer {
+        returned,
+        numbers: numbers.to_vec(),
+        state: after.to_vec(),
+        bytes,
+        ..Answer::default()
+    }
 }
 
 /// A call that writes an answer array.
 fn answered<const N: usize>(call: impl FnOnce(&mut [u64; N]) -> u32) -> Answer {
     let mut numbers = [FILLED_WORD; N];
     let returned = call(&mut numbers).into();
-    Answer { returned, numbers: numbers.to_vec(), ..Answer::default() }
+    Answer {
+        returned,
+        numbers: numbers.to_vec(),
+        ..Answer::default()
+    }
 }
 
 /// A call that alters a state.
 fn altered<const N: usize>(before: &[u64; N], call: impl FnOnce(&mut [u64; N]) -> u32) -> Answer {
     let mut state = *before;
     let returned = call(&mut state).into();
-    Answer { returned, state: state.to_vec(), ..Answer::default() }
+    Answer {
+        returned,
+        state: state.to_vec(),
+        ..Answer::default()
+    }
 }
 
 /// A call that writes bytes.
 fn written(room: usize, call: impl FnOnce(&mut [u8]) -> u64) -> Answer {
     let mut bytes = vec![FILL; room];
     let returned = call(&mut bytes);
-    Answer { returned, bytes, ..Answer::default() }
+    Answer {
+        returned,
+        bytes,
+        ..Answer::default()
+    }
 }

@@ -33,11 +33,21 @@ struct Field {
 }
 
 const fn one(name: &'static str, at: usize) -> Field {
-    Field { name, at, words: 1, base: Base::Decimal }
+    Field {
+        name,
+        at,
+        words: 1,
+        base: Base::Decimal,
+    }
 }
 
 const fn list(name: &'static str, at: usize, base: Base) -> Field {
-    Field { name, at, words: PLACES, base }
+    Field {
+        name,
+        at,
+        words: PLACES,
+        base,
+    }
 }
 
 /// All fields; together they have each word once.
@@ -82,7 +92,9 @@ pub fn window_fields(tokens: &mut Tokens) -> Parsed<Box<Words>> {
         if word == "}" {
             return Ok(window);
         }
-        let (name, list) = word.split_once('=').ok_or_else(|| format!("`{word}` is no field of a window"))?;
+        let (name, list) = word
+            .split_once('=')
+            .ok_or_else(|| format!("`{word}` is no field of a window"))?;
         let field = FIELDS.iter().find(|field| field.name == name);
         let field = field.ok_or_else(|| format!("a window has no field `{name}`"))?;
         let words: Vec<u64> = numbers(list)?;

@@ -48,11 +48,22 @@ pub fn season(random: &Random, ask: Ask) {
         return;
     }
     let begin = beginning(random);
-    let window = if begin == 0 { opened.window() } else { collected(&link, begin) };
+    let window = if begin == 0 {
+        opened.window()
+    } else {
+        collected(&link, begin)
+    };
     let habits = habits(random, &link);
     let holdings = vec![[begin, 0]; link.receiving.shares.len()];
     let steps = random.pick(&[50, 150, 400, 900]);
-    let mut season = Season { random, ask, habits, window, holdings, made: Vec::new() };
+    let mut season = Season {
+        random,
+        ask,
+        habits,
+        window,
+        holdings,
+        made: Vec::new(),
+    };
     for _ in 0..steps {
         season.step();
     }
@@ -91,7 +102,10 @@ impl Season<'_> {
             2 => next - self.random.between(0, next.min(3)),
             _ => next,
         };
-        self.go_on(Call::Send { window: self.window.clone(), k });
+        self.go_on(Call::Send {
+            window: self.window.clone(),
+            k,
+        });
     }
 
     /// Makes a call and goes on from the window that it leaves.
@@ -136,7 +150,11 @@ impl Season<'_> {
             for _ in 0..self.random.between(1, 3) {
                 match self.random.between(0, 5) {
                     0 => member = self.random.pick(&[members, 64, self.random.wild_32()]),
-                    1 => number = self.random.pick(&[sent + 1, self.random.wild(), number.wrapping_sub(1)]),
+                    1 => {
+                        number = self
+                            .random
+                            .pick(&[sent + 1, self.random.wild(), number.wrapping_sub(1)])
+                    }
                     2 => mask |= 1,
                     3 => mask |= 1 << self.random.between(0, 63),
                     4 => mask &= self.random.word(),
@@ -144,7 +162,13 @@ impl Season<'_> {
                 }
             }
         }
-        Call::Report { window: self.window.clone(), member, number, mask, room }
+        Call::Report {
+            window: self.window.clone(),
+            member,
+            number,
+            mask,
+            room,
+        }
     }
 
     /// The messages that the member lacks arrive, save those that are lost.
@@ -158,8 +182,13 @@ impl Season<'_> {
             }
         }
         if self.random.chance(5) {
-            let k = self.random.pick(&[0, number + 64, number + 65, LAST_MESSAGE + 1, self.random.wild()]);
-            (self.ask)(Call::Arrive { holdings: self.holdings[member], k });
+            let k = self
+                .random
+                .pick(&[0, number + 64, number + 65, LAST_MESSAGE + 1, self.random.wild()]);
+            (self.ask)(Call::Arrive {
+                holdings: self.holdings[member],
+                k,
+            });
         }
     }
 
@@ -190,8 +219,17 @@ impl Season<'_> {
         let [number, mask] = self.holdings[member];
         let call = match self.random.between(0, 2) {
             0 => Call::Judge { window },
-            1 => Call::Send { window, k: self.window[SENT] + 1 },
-            _ => Call::Report { window, member: member as u32, number, mask, room: REPORT_BYTES },
+            1 => Call::Send {
+                window,
+                k: self.window[SENT] + 1,
+            },
+            _ => Call::Report {
+                window,
+                member: member as u32,
+                number,
+                mask,
+                room: REPORT_BYTES,
+            },
         };
         (self.ask)(call);
     }

@@ -15,12 +15,29 @@ pub fn pairs(random: &Random, ask: Ask) {
     ask(Call::Open { link: link.clone() });
     for cluster in [&link.sending, &link.receiving] {
         let members = cluster.shares.len();
-        let room = random.pick(&[members, members, members + 3, members.saturating_sub(1), random.place(70)]);
-        ask(Call::Counts { cluster: cluster.clone(), q: link.q, room });
+        let room = random.pick(&[
+            members,
+            members,
+            members + 3,
+            members.saturating_sub(1),
+            random.place(70),
+        ]);
+        ask(Call::Counts {
+            cluster: cluster.clone(),
+            q: link.q,
+            room,
+        });
     }
     for _ in 0..4 {
-        ask(Call::FirstPair { link: link.clone(), k: message(random) });
-        ask(Call::ResendPair { link: link.clone(), k: message(random), n: resend_number(random) });
+        ask(Call::FirstPair {
+            link: link.clone(),
+            k: message(random),
+        });
+        ask(Call::ResendPair {
+            link: link.clone(),
+            k: message(random),
+            n: resend_number(random),
+        });
     }
 }
 
@@ -30,7 +47,11 @@ fn message(random: &Random) -> u64 {
 }
 
 fn resend_number(random: &Random) -> u32 {
-    random.pick(&[random.between(1, 20) as u32, random.between(1, 255) as u32, random.wild_32()])
+    random.pick(&[
+        random.between(1, 20) as u32,
+        random.between(1, 255) as u32,
+        random.wild_32(),
+    ])
 }
 
 /// A window with anything that a well-formed one may have, and some calls on it.
@@ -44,7 +65,13 @@ pub fn drawn_windows(random: &Random, ask: Ask) {
         ask(Call::Judge { window: damaged });
         let member = random.place(window[RECEIVING_MEMBERS] as usize);
         let (number, mask) = grown_report(random, &window, member);
-        let report = Call::Report { window, member: member as u32, number, mask, room: REPORT_BYTES };
+        let report = Call::Report {
+            window,
+            member: member as u32,
+            number,
+            mask,
+            room: REPORT_BYTES,
+        };
         window = ask(report).window();
         let k = window[SENT] + 1;
         window = ask(Call::Send { window, k }).window();
@@ -76,19 +103,31 @@ pub fn records(random: &Random, ask: Ask) {
         let unused = kind == 0 && random.chance(70);
         let write = Call::Write {
             kind,
-            member: if unused { 0 } else { random.pick(&[0, random.word() as u8]) },
+            member: if unused {
+                0
+            } else {
+                random.pick(&[0, random.word() as u8])
+            },
             number: if unused { 0 } else { random.pick(&[0, random.wild()]) },
-            mask: if unused || kind == 2 && random.chance(70) { 0 } else { random.bits() },
+            mask: if unused || kind == 2 && random.chance(70) {
+                0
+            } else {
+                random.bits()
+            },
             room: random.pick(&[24, 24, 24, 23, 25, random.place(60)]),
         };
         let mut bytes = ask(write).bytes;
         bytes.truncate(24);
         ask(Call::Read { bytes });
-        ask(Call::Read { bytes: link_record(random) });
+        ask(Call::Read {
+            bytes: link_record(random),
+        });
     }
 }
 
 /// Inputs of the plan program, right or nearly right.
 pub fn plans(random: &Random, ask: Ask) {
-    ask(Call::Plan { input: plan_input(random) });
+    ask(Call::Plan {
+        input: plan_input(random),
+    });
 }

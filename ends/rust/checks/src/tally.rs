@@ -37,14 +37,22 @@ impl Tally {
 
     /// How often the call was made.
     pub fn calls(&self, name: &str) -> u64 {
-        self.times.iter().filter(|((noted, _), _)| *noted == name).map(|(_, times)| times).sum()
+        self.times
+            .iter()
+            .filter(|((noted, _), _)| *noted == name)
+            .map(|(_, times)| times)
+            .sum()
     }
 
     /// The calls with a number that they can answer with and never did.
     pub fn missing(&self) -> Vec<String> {
-        let pairs = NAMES.iter().flat_map(|&name| possible_refusals(name).iter().map(move |&number| (name, number)));
+        let pairs = NAMES
+            .iter()
+            .flat_map(|&name| possible_refusals(name).iter().map(move |&number| (name, number)));
         let missing = pairs.filter(|pair| !self.times.contains_key(pair));
-        missing.map(|(name, number)| format!("{name} never answered {number}")).collect()
+        missing
+            .map(|(name, number)| format!("{name} never answered {number}"))
+            .collect()
     }
 }
 

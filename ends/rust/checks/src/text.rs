@@ -127,7 +127,9 @@ pub struct Tokens<'a> {
 
 impl<'a> Tokens<'a> {
     pub fn new(line: &'a str) -> Tokens<'a> {
-        Tokens { words: line.split_whitespace() }
+        Tokens {
+            words: line.split_whitespace(),
+        }
     }
 
     pub fn word(&mut self) -> Parsed<&'a str> {

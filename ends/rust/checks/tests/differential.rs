@@ -1,4 +1,5 @@
-//! Long random runs: after each call the library and the reference must have left the same behind.
+//! Long random runs: after each call the library and the reference must have left the same behind, and so must the tuned
+//! implementation that the library is measured against.
 //!
 //! `HAVDORLEK_CALLS` says how many calls are made (1,000,000 by default) and `HAVDORLEK_SEED` from which seed. A run of
 //! at least the default length must also have met every refusal of every call, every resend number and full windows.
@@ -8,7 +9,7 @@
 
 use checks::answer::{line, Answer, VERDICT_BYTES};
 use checks::call::Call;
-use checks::end::{run, Library, Reference};
+use checks::end::{run, Library, Reference, Tuned};
 use checks::layout::{Words, HAS_REPORTED, POINT, REPORT_NUMBERS, SENT};
 use checks::random::Random;
 use checks::season::season;
@@ -51,20 +52,25 @@ impl Drop for Telling<'_> {
 }
 
 impl Run {
-    /// Makes a call on both ends.
+    /// Makes a call on every end.
     fn ask(&mut self, call: Call) -> Answer {
         self.calls += 1;
-        let (library, reference) = {
+        let (library, tuned, reference) = {
             let _telling = Telling(&call);
-            (run(&Library, &call), run(&Reference, &call))
+            (run(&Library, &call), run(&Tuned, &call), run(&Reference, &call))
         };
-        if library != reference {
-            let (line, library) = (line(&call, &reference), library.text(&call));
-            let place = format!("seed {}, call {}", self.seed, self.calls);
-            panic!("{place}: the library differs.\nThe reference says\n{line}\nand the library\n{library}");
-        }
+        self.hold(&call, "library", &library, &reference);
+        self.hold(&call, "tuned one", &tuned, &reference);
         self.note(&call, &reference);
         reference
+    }
+
+    fn hold(&self, call: &Call, end: &str, got: &Answer, reference: &Answer) {
+        if got != reference {
+            let (line, got) = (line(call, reference), got.text(call));
+            let place = format!("seed {}, call {}", self.seed, self.calls);
+            panic!("{place}: the {end} differs.\nThe reference says\n{line}\nand the {end}\n{got}");
+        }
     }
 
     fn note(&mut self, call: &Call, answer: &Answer) {
@@ -72,7 +78,17 @@ impl Run {
         if call.altered_window().is_some() && answer.returned == 0 {
             self.full_windows += u64::from(answer.state[SENT] - answer.state[POINT] == 64);
         }
-        if let (Call::Report { window, member, number, mask, .. }, 0) = (call, answer.returned) {
+        if let (
+            Call::Report {
+                window,
+                member,
+                number,
+                mask,
+                ..
+            },
+            0,
+        ) = (call, answer.returned)
+        {
             self.note_report(window, *member as usize, *number, *mask, answer);
         }
     }
@@ -85,7 +101,11 @@ impl Run {
         self.gaps += u64::from(mask != 0 && number >= point);
         self.repeats += u64::from(mask == 0 && again && number == point && number < sent);
         self.most_verdicts = self.most_verdicts.max(answer.numbers[0]);
-        for verdict in answer.bytes.chunks_exact(VERDICT_BYTES).take(answer.numbers[0] as usize) {
+        for verdict in answer
+            .bytes
+            .chunks_exact(VERDICT_BYTES)
+            .take(answer.numbers[0] as usize)
+        {
             self.verdicts[usize::from(verdict[10])] += 1;
         }
     }
@@ -97,8 +117,14 @@ impl Run {
     /// All that a run of the default length must have met.
     fn assert_met(&self) {
         assert_eq!(self.tally.missing(), Vec::<String>::new());
-        assert!(10 * self.window_calls() >= 3 * self.calls, "too few calls took a window");
-        assert!(self.verdicts[1..].iter().all(|&many| many > 0), "some resend number from 1 to 255 had no verdict");
+        assert!(
+            10 * self.window_calls() >= 3 * self.calls,
+            "too few calls took a window"
+        );
+        assert!(
+            self.verdicts[1..].iter().all(|&many| many > 0),
+            "some resend number from 1 to 255 had no verdict"
+        );
         assert_eq!(self.most_verdicts, 64, "no report brought 64 verdicts");
         assert!(self.full_windows > 0 && self.collecting > 0 && self.gaps > 0 && self.repeats > 0);
     }
@@ -118,23 +144,39 @@ fn tell(text: String) {
 
 fn tell_end(run: &Run, started: Instant) {
     let (seconds, window_calls) = (started.elapsed().as_secs_f64(), run.window_calls());
-    tell(format!("{} calls in {seconds:.1} s, {window_calls} of them on windows", run.calls));
+    tell(format!(
+        "{} calls in {seconds:.1} s, {window_calls} of them on windows",
+        run.calls
+    ));
     tell(format!("how often each call gave each refusal:\n{}", run.tally));
     let (first, more): (u64, u64) = (run.verdicts[1], run.verdicts[2..].iter().sum());
-    tell(format!("verdicts: {first} of resend 1, {more} of later ones, {} of resend 255", run.verdicts[255]));
-    tell(format!("most verdicts of one report: {}; reports that moved p: {}", run.most_verdicts, run.collecting));
-    tell(format!("reports that complained by a gap: {}, by a repeat alone: {}", run.gaps, run.repeats));
+    tell(format!(
+        "verdicts: {first} of resend 1, {more} of later ones, {} of resend 255",
+        run.verdicts[255]
+    ));
+    tell(format!(
+        "most verdicts of one report: {}; reports that moved p: {}",
+        run.most_verdicts, run.collecting
+    ));
+    tell(format!(
+        "reports that complained by a gap: {}, by a repeat alone: {}",
+        run.gaps, run.repeats
+    ));
     tell(format!("calls that left 64 messages open: {}", run.full_windows));
 }
 
 #[test]
-fn both_ends_answer_alike() {
+fn all_ends_answer_alike() {
     let wanted = number_from_environment("HAVDORLEK_CALLS", CALLS);
     let seed = number_from_environment("HAVDORLEK_SEED", SEED);
     tell(format!("seed {seed}, {wanted} calls"));
     let started = Instant::now();
     let random = Random::new(seed);
-    let mut run = Run { seed, verdicts: vec![0; 256], ..Run::default() };
+    let mut run = Run {
+        seed,
+        verdicts: vec![0; 256],
+        ..Run::default()
+    };
     while run.calls < wanted {
         let ask = &mut |call| run.ask(call);
         // A season makes hundreds of calls, a plan just one.

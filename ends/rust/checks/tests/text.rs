@@ -20,20 +20,53 @@ fn calls(random: &Random) -> Vec<Call> {
     let (k, number, mask, room) = (random.wild(), random.wild(), random.bits(), random.place(2_000));
     let holdings = [random.wild(), random.bits()];
     vec![
-        Call::Counts { cluster: link.sending.clone(), q: link.q, room: random.place(100) },
+        Call::Counts {
+            cluster: link.sending.clone(),
+            q: link.q,
+            room: random.place(100),
+        },
         Call::FirstPair { link: link.clone(), k },
-        Call::ResendPair { link: link.clone(), k, n: random.wild_32() },
+        Call::ResendPair {
+            link: link.clone(),
+            k,
+            n: random.wild_32(),
+        },
         Call::Open { link },
         Call::Judge { window: noise(random) },
-        Call::Send { window: window.clone(), k },
-        Call::Report { window: noise(random), member: random.wild_32(), number, mask, room },
-        Call::Report { window, member: 0, number: 0, mask: 0, room: 1_024 },
+        Call::Send {
+            window: window.clone(),
+            k,
+        },
+        Call::Report {
+            window: noise(random),
+            member: random.wild_32(),
+            number,
+            mask,
+            room,
+        },
+        Call::Report {
+            window,
+            member: 0,
+            number: 0,
+            mask: 0,
+            room: 1_024,
+        },
         Call::Fresh,
         Call::Arrive { holdings, k },
         Call::ReceiverReport { holdings },
-        Call::Read { bytes: link_record(random) },
-        Call::Write { kind: random.word() as u8, member: random.word() as u8, number, mask, room },
-        Call::Plan { input: plan_input(random) },
+        Call::Read {
+            bytes: link_record(random),
+        },
+        Call::Write {
+            kind: random.word() as u8,
+            member: random.word() as u8,
+            number,
+            mask,
+            room,
+        },
+        Call::Plan {
+            input: plan_input(random),
+        },
     ]
 }
 
@@ -51,14 +84,34 @@ fn answers_of_wrong_ends_are_read_back() {
     let random = Random::new(2);
     let window = Box::new([7; WORDS]);
     for _ in 0..300 {
-        let bytes = |many| (0..many).map(|_| random.pick(&[0, 0xaa, b' ', b'\n', b'_', random.word() as u8])).collect();
+        let bytes = |many| {
+            (0..many)
+                .map(|_| random.pick(&[0, 0xaa, b' ', b'\n', b'_', random.word() as u8]))
+                .collect()
+        };
         let state = noise(&random).to_vec();
-        let report = Call::Report { window: window.clone(), member: 0, number: 0, mask: 0, room: 1_024 };
+        let report = Call::Report {
+            window: window.clone(),
+            member: 0,
+            number: 0,
+            mask: 0,
+            room: 1_024,
+        };
         let numbers = vec![random.wild()];
-        let answer = Answer { returned: random.wild(), numbers, state, bytes: bytes(1_024), ..Answer::default() };
+        let answer = Answer {
+            returned: random.wild(),
+            numbers,
+            state,
+            bytes: bytes(1_024),
+            ..Answer::default()
+        };
         assert_read_back(&report, &answer);
         let returned = random.pick(&[random.between(0, 4_000), random.wild()]);
-        let answer = Answer { returned, bytes: bytes(3_458), ..Answer::default() };
+        let answer = Answer {
+            returned,
+            bytes: bytes(3_458),
+            ..Answer::default()
+        };
         assert_read_back(&Call::Plan { input: vec![] }, &answer);
     }
 }

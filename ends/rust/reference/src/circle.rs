@@ -23,13 +23,19 @@ pub(crate) struct Circle {
 impl Circle {
     pub fn new(sending: &Cluster, receiving: &Cluster) -> Circle {
         let length = sending.total() / divisor(sending.total(), receiving.total()) * receiving.total();
-        Circle { length, sending_ends: stretch_ends(sending, length), receiving_ends: stretch_ends(receiving, length) }
+        Circle {
+            length,
+            sending_ends: stretch_ends(sending, length),
+            receiving_ends: stretch_ends(receiving, length),
+        }
     }
 
     /// Resend n of a message with this original sender.
     pub fn resend(&self, original_sender: usize, n: u32) -> Resend {
         let mut resends = self.resends(original_sender);
-        resends.nth(n as usize - 1).expect("the circle goes round as often as needed")
+        resends
+            .nth(n as usize - 1)
+            .expect("the circle goes round as often as needed")
     }
 
     /// Resends 1, 2, 3 and so on of a message with this original sender, without end.

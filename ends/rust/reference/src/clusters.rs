@@ -21,7 +21,10 @@ impl Cluster<'_> {
     /// The share of the members that are chosen: shares are added, never members counted.
     pub fn share_of(&self, chosen: impl Fn(usize) -> bool) -> u64 {
         let members = self.shares.iter().enumerate();
-        members.filter(|&(member, _)| chosen(member)).map(|(_, &share)| u64::from(share)).sum()
+        members
+            .filter(|&(member, _)| chosen(member))
+            .map(|(_, &share)| u64::from(share))
+            .sum()
     }
 
     /// "Accepted: 1 to 64 members, each share 1 to 1,000,000, r at most u, and total share D at least 2u + r + 1."

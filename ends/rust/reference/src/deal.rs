@@ -11,7 +11,11 @@ use std::cmp::Reverse;
 /// undealt messages go one each to the largest remainders; equal remainders, lower member first."
 pub(crate) fn deal_counts(cluster: &Cluster, q: u32) -> Vec<u32> {
     let total = cluster.total();
-    let products: Vec<u64> = cluster.shares.iter().map(|&share| u64::from(share) * u64::from(q)).collect();
+    let products: Vec<u64> = cluster
+        .shares
+        .iter()
+        .map(|&share| u64::from(share) * u64::from(q))
+        .collect();
     // A share is at most D, so a quota is at most q and fits.
     let mut counts: Vec<u32> = products.iter().map(|product| (product / total) as u32).collect();
     let undealt = q - counts.iter().sum::<u32>();

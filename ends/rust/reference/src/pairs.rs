@@ -35,12 +35,23 @@ pub fn first_pair(
     k: u64,
     answer: &mut [u64; 2],
 ) -> u32 {
-    let sending = Cluster { shares: ss, u: su, r: sr };
-    let receiving = Cluster { shares: rs, u: ru, r: rr };
+    let sending = Cluster {
+        shares: ss,
+        u: su,
+        r: sr,
+    };
+    let receiving = Cluster {
+        shares: rs,
+        u: ru,
+        r: rr,
+    };
     *answer = [0; 2];
     let judged = judge_pair_of_clusters(&sending, &receiving, q).and_then(|()| judge_message(k));
     if judged.is_ok() {
-        *answer = [original_sender(&sending, q, k) as u64, original_receiver(&receiving, q, k) as u64];
+        *answer = [
+            original_sender(&sending, q, k) as u64,
+            original_receiver(&receiving, q, k) as u64,
+        ];
     }
     number(judged)
 }
@@ -58,11 +69,20 @@ pub fn resend_pair(
     n: u32,
     answer: &mut [u64; 3],
 ) -> u32 {
-    let sending = Cluster { shares: ss, u: su, r: sr };
-    let receiving = Cluster { shares: rs, u: ru, r: rr };
+    let sending = Cluster {
+        shares: ss,
+        u: su,
+        r: sr,
+    };
+    let receiving = Cluster {
+        shares: rs,
+        u: ru,
+        r: rr,
+    };
     *answer = [0; 3];
-    let judged =
-        judge_pair_of_clusters(&sending, &receiving, q).and_then(|()| judge_message(k)).and_then(|()| judge_resend(n));
+    let judged = judge_pair_of_clusters(&sending, &receiving, q)
+        .and_then(|()| judge_message(k))
+        .and_then(|()| judge_resend(n));
     if judged.is_ok() {
         let resend = Circle::new(&sending, &receiving).resend(original_sender(&sending, q, k), n);
         *answer = [resend.sender as u64, resend.receiver as u64, resend.run];

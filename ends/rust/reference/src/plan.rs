@@ -45,7 +45,11 @@ fn accepted_plan(bytes: &[u8]) -> Result<String, u32> {
     judge_pair_of_clusters(&sending, &receiving, q)?;
     judge_message(k)?;
     let sender = original_sender(&sending, q, k);
-    let mut text = format!("resend from to run\n0 {} {} 0\n", sender, original_receiver(&receiving, q, k));
+    let mut text = format!(
+        "resend from to run\n0 {} {} 0\n",
+        sender,
+        original_receiver(&receiving, q, k)
+    );
     // Demand 3: "Among the first (sending members + receiving members − 1) resends [...]".
     let resends = sending.shares.len() + receiving.shares.len() - 1;
     for (n, resend) in (1..=resends).zip(Circle::new(&sending, &receiving).resends(sender)) {
@@ -65,7 +69,10 @@ fn read_input(bytes: &[u8]) -> Option<Input> {
     if bytes.len() > MOST_INPUT_BYTES || !bytes.len().is_multiple_of(RECORD_BYTES) {
         return None;
     }
-    let records: Vec<Record> = bytes.chunks_exact(RECORD_BYTES).map(read_record).collect::<Option<_>>()?;
+    let records: Vec<Record> = bytes
+        .chunks_exact(RECORD_BYTES)
+        .map(read_record)
+        .collect::<Option<_>>()?;
     let mut rest = records.as_slice();
     let sending_bounds = take_one(&mut rest, 1)?;
     let sending_shares = take_shares(&mut rest, 2)?;
@@ -75,13 +82,23 @@ fn read_input(bytes: &[u8]) -> Option<Input> {
     if !rest.is_empty() {
         return None;
     }
-    Some(Input { sending_bounds, sending_shares, receiving_bounds, receiving_shares, quantum, message })
+    Some(Input {
+        sending_bounds,
+        sending_shares,
+        receiving_bounds,
+        receiving_shares,
+        quantum,
+        message,
+    })
 }
 
 fn read_record(bytes: &[u8]) -> Option<Record> {
     let number = |at: usize| u32::from_le_bytes([bytes[at], bytes[at + 1], bytes[at + 2], bytes[at + 3]]);
     let zeros = bytes[1..4] == [0; 3];
-    zeros.then(|| Record { kind: bytes[0], numbers: [number(4), number(8)] })
+    zeros.then(|| Record {
+        kind: bytes[0],
+        numbers: [number(4), number(8)],
+    })
 }
 
 /// The numbers of the first record left, which must be of this kind.
@@ -96,5 +113,12 @@ fn take_shares(rest: &mut &[Record], kind: u8) -> Option<Vec<u32>> {
     let many = rest.iter().take_while(|record| record.kind == kind).count();
     let (records, others) = rest.split_at(many);
     *rest = others;
-    records.iter().map(|&Record { numbers: [share, zero], .. }| (zero == 0).then_some(share)).collect()
+    records
+        .iter()
+        .map(
+            |&Record {
+                 numbers: [share, zero], ..
+             }| (zero == 0).then_some(share),
+        )
+        .collect()
 }

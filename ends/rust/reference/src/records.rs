@@ -34,11 +34,19 @@ fn accepted_record(bytes: &[u8]) -> Result<[u64; 4], u32> {
     if must_be_zero.iter().any(|&byte| byte != 0) {
         return Err(NOT_ZERO);
     }
-    Ok([u64::from(bytes[0]), u64::from(bytes[1]), little_endian(&bytes[8..16]), little_endian(&bytes[16..])])
+    Ok([
+        u64::from(bytes[0]),
+        u64::from(bytes[1]),
+        little_endian(&bytes[8..16]),
+        little_endian(&bytes[16..]),
+    ])
 }
 
 fn little_endian(bytes: &[u8]) -> u64 {
-    bytes.iter().rev().fold(0, |number, &byte| number * 256 + u64::from(byte))
+    bytes
+        .iter()
+        .rev()
+        .fold(0, |number, &byte| number * 256 + u64::from(byte))
 }
 
 /// Writes a record. Refusals in the order 14, 15, 5.

@@ -79,7 +79,10 @@ fn lacks(marks: Marks, former: Marks) -> bool {
 /// losses.
 fn take_report(window: &mut Window, member: usize, marks: Marks) -> Vec<Loss> {
     let former = window.reports[member];
-    window.reports[member] = Report { marks, has_reported: true };
+    window.reports[member] = Report {
+        marks,
+        has_reported: true,
+    };
 
     let former_point = window.point;
     window.point = window.point_of_reports();
@@ -121,7 +124,10 @@ fn judge_loss(window: &mut Window, k: u64) -> Option<Loss> {
     }
     entry.count += 1;
     entry.complaints = [false; PLACES];
-    Some(Loss { k, resend_number: entry.count })
+    Some(Loss {
+        k,
+        resend_number: entry.count,
+    })
 }
 
 /// "Verdicts fill the lent output one after another, each into the part not yet written; later bytes stay."

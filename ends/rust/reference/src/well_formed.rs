@@ -27,7 +27,9 @@ fn kept_cluster_is_accepted(cluster: &KeptCluster) -> bool {
     // Only 64 places can be lent, so more members than that are told apart before.
     cluster.members as usize <= PLACES
         && cluster.lent().judge().is_ok()
-        && cluster.shares[cluster.members as usize..].iter().all(|&share| share == 0)
+        && cluster.shares[cluster.members as usize..]
+            .iter()
+            .all(|&share| share == 0)
 }
 
 /// "p ≤ S ≤ p + 64 and S ≤ 1,000,000,000,000". The limit is asked before p + 64 is worked out, which then cannot
@@ -39,7 +41,9 @@ fn numbers_are_in_range(window: &Window) -> bool {
 /// "Each member's report has bit 0 clear and holds nothing above S".
 fn reports_hold_nothing_above_sent(window: &Window) -> bool {
     let members = &window.reports[..window.receiving.members as usize];
-    members.iter().all(|report| !report.marks.bit(0) && report.marks.highest_held() <= u128::from(window.sent))
+    members
+        .iter()
+        .all(|report| !report.marks.bit(0) && report.marks.highest_held() <= u128::from(window.sent))
 }
 
 /// "A member that has not reported, and every place past the cluster's end (never marked as reported), has an all-zero
@@ -61,7 +65,9 @@ fn silent_places_are_zero(window: &Window) -> bool {
 fn complaints_name_members_that_lack_the_message(window: &Window) -> bool {
     window.open_messages().all(|k| {
         let complaints = window.entries[place(k)].complaints.iter().enumerate();
-        let mut named = complaints.filter(|&(_, &complains)| complains).map(|(member, _)| member);
+        let mut named = complaints
+            .filter(|&(_, &complains)| complains)
+            .map(|(member, _)| member);
         named.all(|member| member < window.receiving.members as usize && !window.reports[member].marks.holds(k))
     })
 }
@@ -73,5 +79,7 @@ fn entries_outside_the_window_are_empty(window: &Window) -> bool {
         inside[place(k)] = true;
     }
     let outside = window.entries.iter().zip(inside).filter(|&(_, inside)| !inside);
-    outside.map(|(entry, _)| entry).all(|entry| entry.count == 0 && !entry.complaints.contains(&true))
+    outside
+        .map(|(entry, _)| entry)
+        .all(|entry| entry.count == 0 && !entry.complaints.contains(&true))
 }

@@ -43,7 +43,10 @@ pub(crate) struct Window {
 }
 
 /// "The entry starts with resend count 0 and no complaints."
-pub(crate) const EMPTY_ENTRY: Entry = Entry { count: 0, complaints: [false; PLACES] };
+pub(crate) const EMPTY_ENTRY: Entry = Entry {
+    count: 0,
+    complaints: [false; PLACES],
+};
 
 /// "Message k has place (k − 1) mod 64."
 pub(crate) fn place(k: u64) -> usize {
@@ -54,18 +57,30 @@ impl KeptCluster {
     fn keep(cluster: &Cluster) -> KeptCluster {
         let mut shares = [0; PLACES];
         shares[..cluster.shares.len()].copy_from_slice(cluster.shares);
-        KeptCluster { members: cluster.shares.len() as u32, u: cluster.u, r: cluster.r, shares }
+        KeptCluster {
+            members: cluster.shares.len() as u32,
+            u: cluster.u,
+            r: cluster.r,
+            shares,
+        }
     }
 
     /// The cluster without the places past its end; there are at most 64 members.
     pub fn lent(&self) -> Cluster<'_> {
-        Cluster { shares: &self.shares[..self.members as usize], u: self.u, r: self.r }
+        Cluster {
+            shares: &self.shares[..self.members as usize],
+            u: self.u,
+            r: self.r,
+        }
     }
 }
 
 impl Window {
     fn new(sending: &Cluster, receiving: &Cluster, q: u32) -> Window {
-        let silent = Report { marks: Marks { number: 0, mask: 0 }, has_reported: false };
+        let silent = Report {
+            marks: Marks { number: 0, mask: 0 },
+            has_reported: false,
+        };
         Window {
             sending: KeptCluster::keep(sending),
             receiving: KeptCluster::keep(receiving),
@@ -89,7 +104,9 @@ impl Window {
     /// reaches.
     pub fn point_of_reports(&self) -> u64 {
         let receiving = self.receiving.lent();
-        let numbers = self.reports[..receiving.shares.len()].iter().map(|report| report.marks.number);
+        let numbers = self.reports[..receiving.shares.len()]
+            .iter()
+            .map(|report| report.marks.number);
         let reached = |k: &u64| {
             let share = receiving.share_of(|member| self.reports[member].marks.number >= *k);
             share >= u64::from(receiving.u) + 1
@@ -111,8 +128,16 @@ impl Window {
 
 /// Opens a window. Refusals in the order for pairs; "a refused opening hands back a state of zeros".
 pub fn open(ss: &[u32], su: u32, sr: u32, rs: &[u32], ru: u32, rr: u32, q: u32, window: &mut [u64; WORDS]) -> u32 {
-    let sending = Cluster { shares: ss, u: su, r: sr };
-    let receiving = Cluster { shares: rs, u: ru, r: rr };
+    let sending = Cluster {
+        shares: ss,
+        u: su,
+        r: sr,
+    };
+    let receiving = Cluster {
+        shares: rs,
+        u: ru,
+        r: rr,
+    };
     let judged = judge_pair_of_clusters(&sending, &receiving, q);
     *window = match judged {
         Ok(()) => Window::new(&sending, &receiving, q).to_words(),

@@ -27,10 +27,19 @@ const SHARES: usize = 3;
 impl Window {
     /// The state that the words say; none where a word is too large for its field.
     pub fn from_words(words: &[u64; WORDS]) -> Option<Window> {
-        let mut reports = [Report { marks: Marks { number: 0, mask: 0 }, has_reported: false }; PLACES];
-        let mut entries = [Entry { count: 0, complaints: [false; PLACES] }; PLACES];
+        let mut reports = [Report {
+            marks: Marks { number: 0, mask: 0 },
+            has_reported: false,
+        }; PLACES];
+        let mut entries = [Entry {
+            count: 0,
+            complaints: [false; PLACES],
+        }; PLACES];
         for i in 0..PLACES {
-            reports[i].marks = Marks { number: words[REPORT_NUMBERS + i], mask: words[REPORT_MASKS + i] };
+            reports[i].marks = Marks {
+                number: words[REPORT_NUMBERS + i],
+                mask: words[REPORT_MASKS + i],
+            };
             reports[i].has_reported = flag(words[HAS_REPORTED + i])?;
             entries[i].count = number_of_32_bits(words[RESEND_COUNTS + i])?;
             entries[i].complaints = members_of(words[COMPLAINTS + i]);
@@ -106,5 +115,9 @@ fn members_of(word: u64) -> [bool; PLACES] {
 }
 
 fn word_of(members: &[bool; PLACES]) -> u64 {
-    members.iter().enumerate().map(|(member, &named)| u64::from(named) << member).sum()
+    members
+        .iter()
+        .enumerate()
+        .map(|(member, &named)| u64::from(named) << member)
+        .sum()
 }

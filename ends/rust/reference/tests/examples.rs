@@ -79,7 +79,14 @@ fn message_6_of_e() {
 #[test]
 fn the_plan_of_three_to_five() {
     let shares = |kind, many| vec![(kind, 1, 0); many];
-    let records = [vec![(1, 1, 0)], shares(2, 3), vec![(3, 2, 0)], shares(4, 5), vec![(5, 3, 3)]].concat();
+    let records = [
+        vec![(1, 1, 0)],
+        shares(2, 3),
+        vec![(3, 2, 0)],
+        shares(4, 5),
+        vec![(5, 3, 3)],
+    ]
+    .concat();
     let text = "resend from to run\n0 2 2 0\n1 0 0 3\n2 0 1 2\n3 1 1 1\n4 1 2 3\n5 1 3 1\n6 2 3 2\n7 2 4 3\n";
     let mut out = [0xaa; 3458];
     assert_eq!(plan(&input(&records), &mut out), text.len());
@@ -110,7 +117,10 @@ fn e_to_four_shares_of_a_million() {
         let mut answer = [0; 3];
         let (u, r) = (1_333_333, 1_333_333);
         // Message 4 is member 3's, whose stretch ends where unit 0 is.
-        assert_eq!(resend_pair(&[1; 4], 1, 1, &[1_000_000; 4], u, r, 4, 4, n, &mut answer), 0);
+        assert_eq!(
+            resend_pair(&[1; 4], 1, 1, &[1_000_000; 4], u, r, 4, 4, n, &mut answer),
+            0
+        );
         assert_eq!(answer, pair);
     }
 }

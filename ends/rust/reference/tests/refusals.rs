@@ -182,6 +182,12 @@ fn number_19_and_others_of_the_plan() {
     assert_eq!(refused(&[0; 4_097]), "refused 19\n");
     let bounds = |kind| [kind, 0, 0, 0, 0, 0, 0, 0, 0, 0, 0, 0];
     assert_eq!(refused(&[bounds(1), bounds(3), bounds(5)].concat()), "refused 1\n");
-    assert_eq!(refused(&[bounds(1), bounds(2), bounds(3), bounds(5)].concat()), "refused 2\n");
-    assert_eq!(refused(&[bounds(1), bounds(3), bounds(2), bounds(5)].concat()), "refused 19\n");
+    assert_eq!(
+        refused(&[bounds(1), bounds(2), bounds(3), bounds(5)].concat()),
+        "refused 2\n"
+    );
+    assert_eq!(
+        refused(&[bounds(1), bounds(3), bounds(2), bounds(5)].concat()),
+        "refused 19\n"
+    );
 }

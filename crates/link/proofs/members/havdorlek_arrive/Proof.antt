@@ -1,8 +1,8 @@
 -- The answer, and its numbers in their places.
+use Rattle.link.proofs.NumberLaws.{arrival-refusal, arrival-words}
 use borrow.Author.Needs.{needs}
 use Rattle.link.proofs.members.havdorlek_arrive.Statement.{statement}
 use Rattle.link.proofs.members.havdorlek_arrive.Tie as tie
-use Rattle.holdings.proofs.arrive.Reads as arrive-reads
 
 element-copy-out-t8 : tie.Need-element-copy-out-t8
 element-copy-out-t8 c = search needs
@@ -14,7 +14,7 @@ arrive-requires : tie.Need-arrive-requires
 arrive-requires c κs = search needs
 
 returns : tie.Need-returns
-returns c = (cc, cc)
+returns c = (search arrival-refusal, search arrival-words)
 
 pub havdorlek-arrive-spec : {M : Type 1} → statement M
 havdorlek-arrive-spec =

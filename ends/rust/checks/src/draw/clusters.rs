@@ -54,7 +54,11 @@ fn quantum(random: &Random) -> u32 {
 
 /// Two clusters and a quantum that are accepted.
 pub fn link(random: &Random) -> Link {
-    Link { sending: cluster(random), receiving: cluster(random), q: quantum(random) }
+    Link {
+        sending: cluster(random),
+        receiving: cluster(random),
+        q: quantum(random),
+    }
 }
 
 /// The same, with something wrong in it now and then.

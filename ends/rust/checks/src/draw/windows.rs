@@ -67,8 +67,10 @@ fn draw_report(random: &Random, window: &mut Words, member: usize, beginning: u6
 /// The collecting point of the reports: the number at which the members, highest number first, come to share u + 1.
 fn point(window: &Words, link: &Link) -> u64 {
     let shares = link.receiving.shares.iter().map(|&share| u64::from(share));
-    let mut reports: Vec<(u64, u64)> =
-        shares.enumerate().map(|(i, share)| (window[REPORT_NUMBERS + i], share)).collect();
+    let mut reports: Vec<(u64, u64)> = shares
+        .enumerate()
+        .map(|(i, share)| (window[REPORT_NUMBERS + i], share))
+        .collect();
     reports.sort_unstable_by_key(|&(number, _)| std::cmp::Reverse(number));
     let mut total = 0;
     for (number, share) in reports {
@@ -98,10 +100,26 @@ pub fn grown_report(random: &Random, window: &Words, member: usize) -> (u64, u64
 
 /// Alters one word: by little, by a bit, to another word's value, or to anything.
 pub fn damage(random: &Random, window: &mut Words) {
-    let single =
-        [SENDING_MEMBERS, SENDING_U, SENDING_R, RECEIVING_MEMBERS, RECEIVING_U, RECEIVING_R, QUANTUM, SENT, POINT];
-    let lists =
-        [SENDING_SHARES, RECEIVING_SHARES, REPORT_NUMBERS, REPORT_MASKS, HAS_REPORTED, RESEND_COUNTS, COMPLAINTS];
+    let single = [
+        SENDING_MEMBERS,
+        SENDING_U,
+        SENDING_R,
+        RECEIVING_MEMBERS,
+        RECEIVING_U,
+        RECEIVING_R,
+        QUANTUM,
+        SENT,
+        POINT,
+    ];
+    let lists = [
+        SENDING_SHARES,
+        RECEIVING_SHARES,
+        REPORT_NUMBERS,
+        REPORT_MASKS,
+        HAS_REPORTED,
+        RESEND_COUNTS,
+        COMPLAINTS,
+    ];
     let offset = match random.between(0, 2) {
         0 => random.pick(&single),
         1 => random.pick(&lists) + random.place(8),
@@ -122,5 +140,11 @@ pub fn damage(random: &Random, window: &mut Words) {
 /// Words that are no state at all.
 pub fn noise(random: &Random) -> Box<Words> {
     let narrow = random.chance(50);
-    Box::new(std::array::from_fn(|_| if narrow { random.between(0, 3) } else { random.wild() }))
+    Box::new(std::array::from_fn(|_| {
+        if narrow {
+            random.between(0, 3)
+        } else {
+            random.wild()
+        }
+    }))
 }

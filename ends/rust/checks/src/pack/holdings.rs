@@ -52,14 +52,24 @@ pub fn arrive_sheet() -> String {
         sheet.accepts(arrive([5, 0x2], k));
     }
     sheet.group("Marked; and k = c + 1, which rises over the marked run and no further.");
-    let rises = [([5, 0x2], 6), ([5, 0x2], 8), ([5, 0x12], 6), ([5, 0xfe], 6), ([5, 0x4], 6), ([5, 1 << 63], 6)];
+    let rises = [
+        ([5, 0x2], 6),
+        ([5, 0x2], 8),
+        ([5, 0x12], 6),
+        ([5, 0xfe], 6),
+        ([5, 0x4], 6),
+        ([5, 1 << 63], 6),
+    ];
     for (holdings, k) in rises {
         sheet.accepts(arrive(holdings, k));
     }
     sheet.group("All but one of 64 are marked.");
-    for (holdings, k) in
-        [([7, u64::MAX - 1], 8), ([7, u64::MAX - 1], 71), ([7, u64::MAX - 3], 8), ([7, u64::MAX - 3], 9)]
-    {
+    for (holdings, k) in [
+        ([7, u64::MAX - 1], 8),
+        ([7, u64::MAX - 1], 71),
+        ([7, u64::MAX - 3], 8),
+        ([7, u64::MAX - 3], 9),
+    ] {
         sheet.accepts(arrive(holdings, k));
     }
     sheet.group("Up to c + 64.");
@@ -79,7 +89,11 @@ pub fn arrive_sheet() -> String {
     }
     sheet.order(
         &([1_000, 0x2], 1_001),
-        &[(17, |(holdings, _)| holdings[1] |= 1), (6, |(_, k)| *k = LAST_MESSAGE + 1), (18, |(_, k)| *k = 1_065)],
+        &[
+            (17, |(holdings, _)| holdings[1] |= 1),
+            (6, |(_, k)| *k = LAST_MESSAGE + 1),
+            (18, |(_, k)| *k = 1_065),
+        ],
         |(holdings, k)| arrive(holdings, k),
     );
     sheet.text()

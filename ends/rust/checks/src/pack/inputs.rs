@@ -8,7 +8,11 @@ pub use crate::states::{accepted, collected, opened, LAST_MESSAGE, REPORT_BYTES}
 pub const MOST_SHARE: u32 = 1_000_000;
 
 pub fn cluster(shares: &[u32], u: u32, r: u32) -> Cluster {
-    Cluster { shares: shares.to_vec(), u, r }
+    Cluster {
+        shares: shares.to_vec(),
+        u,
+        r,
+    }
 }
 
 pub fn link(sending: Cluster, receiving: Cluster, q: u32) -> Link {
@@ -34,7 +38,11 @@ pub fn uneven() -> Link {
 pub fn full() -> Link {
     let mut shares = [MOST_SHARE; 64];
     shares[63] = MOST_SHARE - 1;
-    link(cluster(&shares, 20_000_000, 20_000_000), cluster(&[MOST_SHARE; 64], 31_000_000, 1_000_000), 1_024)
+    link(
+        cluster(&shares, 20_000_000, 20_000_000),
+        cluster(&[MOST_SHARE; 64], 31_000_000, 1_000_000),
+        1_024,
+    )
 }
 
 /// The window after the next messages are sent.
@@ -47,7 +55,14 @@ pub fn sent(window: Box<Words>, messages: u64) -> Box<Words> {
 
 /// The window after an accepted report.
 pub fn reported(window: Box<Words>, member: u32, number: u64, mask: u64) -> Box<Words> {
-    accepted(Call::Report { window, member, number, mask, room: REPORT_BYTES }).window()
+    accepted(Call::Report {
+        window,
+        member,
+        number,
+        mask,
+        room: REPORT_BYTES,
+    })
+    .window()
 }
 
 /// The window with other words at some places.

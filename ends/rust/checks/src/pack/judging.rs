@@ -8,11 +8,18 @@ use crate::call::Call;
 pub fn judge_sheet() -> String {
     let mut sheet = Sheet::new("judge: whether a state is well formed");
     sheet.group("Opened windows, empty and full; collected ones.");
-    for window in [opened(&e()), opened(&full()), sent(opened(&e()), 64), sent(opened(&full()), 64)] {
+    for window in [
+        opened(&e()),
+        opened(&full()),
+        sent(opened(&e()), 64),
+        sent(opened(&full()), 64),
+    ] {
         sheet.accepts(Call::Judge { window });
     }
     for number in [1, 63, 64, 65, 999_999_999_999] {
-        sheet.accepts(Call::Judge { window: collected(&full(), number) });
+        sheet.accepts(Call::Judge {
+            window: collected(&full(), number),
+        });
     }
     sheet.group("Well-formed states, most of them one step inside a limit.");
     for (about, window) in sound_states() {

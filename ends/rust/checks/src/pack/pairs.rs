@@ -9,7 +9,11 @@ fn first(link: &Link, k: u64) -> Call {
 }
 
 fn resend(link: &Link, k: u64, n: u32) -> Call {
-    Call::ResendPair { link: link.clone(), k, n }
+    Call::ResendPair {
+        link: link.clone(),
+        k,
+        n,
+    }
 }
 
 /// What the causes spoil: clusters and quantum, a message and a resend number.
@@ -79,7 +83,19 @@ fn first_rotation(sheet: &mut Sheet) {
         sheet.accepts(first(&single, k));
         sheet.accepts(first(&small, k));
     }
-    for k in [1, 64, 65, 1_023, 1_024, 1_025, 2_048, 1_048_576, 1_048_577, 999_999_999_999, LAST_MESSAGE] {
+    for k in [
+        1,
+        64,
+        65,
+        1_023,
+        1_024,
+        1_025,
+        2_048,
+        1_048_576,
+        1_048_577,
+        999_999_999_999,
+        LAST_MESSAGE,
+    ] {
         sheet.accepts(first(&full(), k));
     }
 }
@@ -146,7 +162,10 @@ fn resend_examples(sheet: &mut Sheet) {
     }
 
     sheet.group("The document's examples: E to four shares of a million, from unit 0.");
-    let million = Link { receiving: cluster(&[MOST_SHARE; 4], 1_333_333, 1_333_333), ..e() };
+    let million = Link {
+        receiving: cluster(&[MOST_SHARE; 4], 1_333_333, 1_333_333),
+        ..e()
+    };
     for (n, end) in (1..).zip([0, 1, 2]) {
         sheet.example(resend(&million, 4, n), &format!("0 answer={end},{end},1000000"));
     }

@@ -22,14 +22,19 @@ pub fn records_of(Link { sending, receiving, q }: &Link, message: u32) -> Vec<Re
 }
 
 fn plan(records: &[Record]) -> Call {
-    Call::Plan { input: records.iter().copied().flat_map(bytes_of).collect() }
+    Call::Plan {
+        input: records.iter().copied().flat_map(bytes_of).collect(),
+    }
 }
 
 pub fn plan_sheet() -> String {
     let mut sheet = Sheet::new("plan: the plan program's text");
     let text = "resend_from_to_run/0_2_2_0/1_0_0_3/2_0_1_2/3_1_1_1/4_1_2_3/5_1_3_1/6_2_3_2/7_2_4_3/";
     sheet.group("The document's example.");
-    sheet.example(plan(&records_of(&three_to_five(), 3)), &format!("83 text={text} rest=aa*3375"));
+    sheet.example(
+        plan(&records_of(&three_to_five(), 3)),
+        &format!("83 text={text} rest=aa*3375"),
+    );
     sheet.group("More plans, one of 127 resends among them.");
     let single = link(cluster(&[1], 0, 0), cluster(&[1], 0, 0), 1);
     for (link, message) in [(e(), 6), (uneven(), 7), (single, u32::MAX), (full(), 1_000_000_000)] {
@@ -125,7 +130,10 @@ fn nonzero_bytes(sheet: &mut Sheet) {
 fn members(sheet: &mut Sheet) {
     sheet.group("No kind 2, no kind 4, neither; and 64 or 65 of them.");
     let plan_of = |sending: &[u32], receiving: &[u32]| {
-        plan(&records_of(&link(cluster(sending, 0, 0), cluster(receiving, 0, 0), 4), 6))
+        plan(&records_of(
+            &link(cluster(sending, 0, 0), cluster(receiving, 0, 0), 4),
+            6,
+        ))
     };
     sheet.answers(1, plan_of(&[], &[1]));
     sheet.answers(1, plan_of(&[1], &[]));

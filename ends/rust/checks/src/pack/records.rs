@@ -5,7 +5,12 @@ use crate::call::{Call, RECORD_BYTES};
 
 /// A record's bytes, right or wrong: kind, member, number, mask.
 fn record(kind: u8, member: u8, number: u64, mask: u64) -> Vec<u8> {
-    [&[kind, member, 0, 0, 0, 0, 0, 0], &number.to_le_bytes()[..], &mask.to_le_bytes()[..]].concat()
+    [
+        &[kind, member, 0, 0, 0, 0, 0, 0],
+        &number.to_le_bytes()[..],
+        &mask.to_le_bytes()[..],
+    ]
+    .concat()
 }
 
 fn read(bytes: Vec<u8>) -> Call {
@@ -41,7 +46,11 @@ pub fn read_sheet() -> String {
     }
     sheet.order(
         &record(1, 3, 5, 6),
-        &[(16, |bytes| bytes.truncate(23)), (14, |bytes| bytes[0] = 3), (15, |bytes| bytes[7] = 1)],
+        &[
+            (16, |bytes| bytes.truncate(23)),
+            (14, |bytes| bytes[0] = 3),
+            (15, |bytes| bytes[7] = 1),
+        ],
         read,
     );
     sheet.text()
@@ -67,7 +76,13 @@ fn must_be_zero(sheet: &mut Sheet) {
 
 pub fn write_sheet() -> String {
     let mut sheet = Sheet::new("write: a link record of kind 0, 1 or 2");
-    let write = |kind, member, number, mask, room| Call::Write { kind, member, number, mask, room };
+    let write = |kind, member, number, mask, room| Call::Write {
+        kind,
+        member,
+        number,
+        mask,
+        room,
+    };
     let large = 0x0807_0605_0403_0201;
     sheet.group("Unused, report, arrival; member and number of any range, bit 0 set or not.");
     sheet.accepts(write(0, 0, 0, 0, 24));
@@ -93,7 +108,11 @@ pub fn write_sheet() -> String {
     }
     sheet.order(
         &(2, 3, 5, 0, 24),
-        &[(14, |(kind, ..)| *kind = 3), (15, |(_, _, _, mask, _)| *mask = 2), (5, |(.., room)| *room = 23)],
+        &[
+            (14, |(kind, ..)| *kind = 3),
+            (15, |(_, _, _, mask, _)| *mask = 2),
+            (5, |(.., room)| *room = 23),
+        ],
         |(kind, member, number, mask, room)| write(kind, member, number, mask, room),
     );
     sheet.text()

@@ -7,7 +7,13 @@ use crate::call::Call;
 use crate::layout::{Words, HAS_REPORTED, REPORT_MASKS, REPORT_NUMBERS};
 
 fn report(window: Box<Words>, member: u32, number: u64, mask: u64) -> Call {
-    Call::Report { window, member, number, mask, room: REPORT_BYTES }
+    Call::Report {
+        window,
+        member,
+        number,
+        mask,
+        room: REPORT_BYTES,
+    }
 }
 
 pub fn refusals(sheet: &mut Sheet) {
@@ -21,7 +27,16 @@ fn limits(sheet: &mut Sheet) {
     sheet.group("Room: 1,024 bytes, however many verdicts there are; later bytes stay.");
     for (refusal, room) in [(5, 0), (5, 16), (5, 1_023), (0, 1_024), (0, 1_025), (0, 2_000)] {
         let window = sent(opened(&uneven()), 3);
-        sheet.answers(refusal, Call::Report { window, member: 0, number: 0, mask: 2, room });
+        sheet.answers(
+            refusal,
+            Call::Report {
+                window,
+                member: 0,
+                number: 0,
+                mask: 2,
+                room,
+            },
+        );
     }
     sheet.group("Members: the receiving cluster's.");
     for (refusal, member) in [(0, 3), (8, 4), (8, 63), (8, 64), (8, 256), (8, u32::MAX)] {
@@ -118,6 +133,12 @@ fn order(sheet: &mut Sheet) {
             (11, |(_, (.., mask), _)| *mask |= 1 << 63),
             (13, |(_, (_, number, _), _)| *number = 1),
         ],
-        |(window, (member, number, mask), room)| Call::Report { window, member, number, mask, room },
+        |(window, (member, number, mask), room)| Call::Report {
+            window,
+            member,
+            number,
+            mask,
+            room,
+        },
     );
 }

@@ -64,7 +64,10 @@ fn gaps(sheet: &mut Sheet) {
     let mut story = Story::begin(sheet, about, sent(opened(&uneven()), 6));
     story.report(1, 0, 0x10, 0, 0);
     let answer = story.report(2, 0, 0x10, 4, 0);
-    assert_eq!(verdicts(&answer).iter().map(|verdict| verdict.0).collect::<Vec<_>>(), [1, 2, 3, 4]);
+    assert_eq!(
+        verdicts(&answer).iter().map(|verdict| verdict.0).collect::<Vec<_>>(),
+        [1, 2, 3, 4]
+    );
 
     let about =
         "The same report again complains again; after a verdict the set starts anew and the resend number rises.";
@@ -77,7 +80,11 @@ fn gaps(sheet: &mut Sheet) {
     let about = "A member of share r + 1 is enough on its own, and with r = 0 any member is.";
     let mut story = Story::begin(sheet, about, sent(opened(&uneven()), 3));
     story.report(0, 0, 0x2, 1, 0);
-    let mut story = Story::begin(sheet, "The same in a cluster with r = 0.", sent(opened(&three_to_five()), 3));
+    let mut story = Story::begin(
+        sheet,
+        "The same in a cluster with r = 0.",
+        sent(opened(&three_to_five()), 3),
+    );
     story.report(4, 0, 0x6, 1, 0);
 }
 
@@ -105,7 +112,11 @@ fn repeats(sheet: &mut Sheet) {
     let about = "A repeat below p complains of nothing, and one of S has nothing to complain of.";
     let mut story = Story::begin(sheet, about, collected(&three_to_five(), 4));
     story.report(0, 4, 0, 0, 4);
-    let mut story = Story::begin(sheet, "The same, below p.", reported(sent(opened(&three_to_five()), 4), 0, 1, 0));
+    let mut story = Story::begin(
+        sheet,
+        "The same, below p.",
+        reported(sent(opened(&three_to_five()), 4), 0, 1, 0),
+    );
     story.report(1, 4, 0, 0, 0);
     story.report(2, 4, 0, 0, 1);
     story.report(3, 4, 0, 0, 4);
@@ -141,7 +152,10 @@ fn quacks(sheet: &mut Sheet) {
     let mut story = Story::begin(sheet, about, sent(opened(&uneven()), 5));
     story.report(0, 0, 0x2, 1, 0);
     let answer = story.report(3, 0, 0x8, 3, 0);
-    assert_eq!(verdicts(&answer).iter().map(|verdict| verdict.0).collect::<Vec<_>>(), [1, 2, 3]);
+    assert_eq!(
+        verdicts(&answer).iter().map(|verdict| verdict.0).collect::<Vec<_>>(),
+        [1, 2, 3]
+    );
 
     let about = "Where u is above r: holders of share r + 1 = 2 are no QUACK, complaints of share 2 are a loss.";
     let link = link(cluster(&[1], 0, 0), cluster(&[1; 8], 3, 1), 1);
@@ -156,7 +170,10 @@ fn quacks(sheet: &mut Sheet) {
 
 fn resend_counts(sheet: &mut Sheet) {
     let about = "A resend count of 253: it rises to 254 and to 255; then the set is kept and there is no verdict.";
-    let window = changed(&sent(opened(&uneven()), 3), &[(RESEND_COUNTS, 253), (RESEND_COUNTS + 1, 255)]);
+    let window = changed(
+        &sent(opened(&uneven()), 3),
+        &[(RESEND_COUNTS, 253), (RESEND_COUNTS + 1, 255)],
+    );
     let mut story = Story::begin(sheet, about, window);
     let answer = story.report(0, 0, 0x4, 1, 0);
     assert_eq!(verdicts(&answer)[0].3, 254);

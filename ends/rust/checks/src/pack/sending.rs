@@ -79,5 +79,8 @@ fn message_limits(sheet: &mut Sheet) {
         sheet.answers(6, send(window.clone(), k));
     }
     sheet.answers(10, send(window.clone(), LAST_MESSAGE));
-    sheet.answers(17, send(changed(&window, &[(SENT, LAST_MESSAGE + 1)]), LAST_MESSAGE + 2));
+    sheet.answers(
+        17,
+        send(changed(&window, &[(SENT, LAST_MESSAGE + 1)]), LAST_MESSAGE + 2),
+    );
 }

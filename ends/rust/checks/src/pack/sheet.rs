@@ -14,7 +14,9 @@ pub type Cause<T> = (u64, fn(&mut T));
 
 impl Sheet {
     pub fn new(title: &str) -> Sheet {
-        Sheet { text: format!("# {title}\n# The form of a line is told in README.md.\n") }
+        Sheet {
+            text: format!("# {title}\n# The form of a line is told in README.md.\n"),
+        }
     }
 
     pub fn text(self) -> String {
@@ -35,7 +37,11 @@ impl Sheet {
     pub fn answers(&mut self, refusal: u64, call: Call) -> Answer {
         let answer = run(&Reference, &call);
         let line = line(&call, &answer);
-        assert_eq!(answer.refusal(&call), refusal, "the line is there for another answer: {line}");
+        assert_eq!(
+            answer.refusal(&call),
+            refusal,
+            "the line is there for another answer: {line}"
+        );
         self.text += &line;
         self.text += "\n";
         answer
@@ -48,7 +54,10 @@ impl Sheet {
     /// An example of the document: the answer is also held against the document's own numbers.
     pub fn example(&mut self, call: Call, expected: &str) {
         let text = self.accepts(call.clone()).text(&call);
-        assert_eq!(text, expected, "an example of the document is answered otherwise: {call}");
+        assert_eq!(
+            text, expected,
+            "an example of the document is answered otherwise: {call}"
+        );
     }
 
     /// Each cause alone, then each two together, of which the earlier in the document's order decides.

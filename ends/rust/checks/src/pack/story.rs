@@ -21,9 +21,19 @@ impl Story<'_> {
     /// An accepted report that brings this many verdicts and leaves the collecting point here.
     pub fn report(&mut self, member: u32, number: u64, mask: u64, verdicts: u64, point: u64) -> Answer {
         let window = self.window.clone();
-        let answer = self.sheet.accepts(Call::Report { window, member, number, mask, room: REPORT_BYTES });
+        let answer = self.sheet.accepts(Call::Report {
+            window,
+            member,
+            number,
+            mask,
+            room: REPORT_BYTES,
+        });
         self.window = answer.window();
-        assert_eq!((answer.numbers[0], self.window[POINT]), (verdicts, point), "member {member} reports {number}");
+        assert_eq!(
+            (answer.numbers[0], self.window[POINT]),
+            (verdicts, point),
+            "member {member} reports {number}"
+        );
         answer
     }
 
@@ -34,6 +44,18 @@ impl Story<'_> {
 
 /// The verdicts in an answer: message, sender, receiver and resend number.
 pub fn verdicts(answer: &Answer) -> Vec<(u64, u8, u8, u8)> {
-    let parts = answer.bytes.chunks_exact(VERDICT_BYTES).take(answer.numbers[0] as usize);
-    parts.map(|part| (u64::from_le_bytes(part[..8].try_into().unwrap()), part[8], part[9], part[10])).collect()
+    let parts = answer
+        .bytes
+        .chunks_exact(VERDICT_BYTES)
+        .take(answer.numbers[0] as usize);
+    parts
+        .map(|part| {
+            (
+                u64::from_le_bytes(part[..8].try_into().unwrap()),
+                part[8],
+                part[9],
+                part[10],
+            )
+        })
+        .collect()
 }
