@@ -6,6 +6,8 @@ pub mod CircleLaws
 pub mod StepLaws
 pub mod WalkLaws
 pub mod PositionLaws
+pub mod PeriodLaws
+pub mod TableLaws
 pub mod FailedUnits
 pub mod Turn
 pub mod Rounds

@@ -100,6 +100,3 @@ module _ (ss rs : List ℕ) (a : Sized ss) (b : Sized rs) where
 
   pub resend-told : (at : Position) (z : Resend) (i n : ℕ) → at ≡ positionOf ss rs i n → z ≡ resendFrom at → z ≡ resendOf ss rs i n
   resend-told at z i n u v = v ∙ ap resendFrom u ∙ resend-position i n
-
-pub position-done : (ss rs : List ℕ) (at : Position) (i k n : ℕ) → at ≡ positionOf ss rs i k → k ≤ n → n ≤ k → at ≡ positionOf ss rs i n
-position-done ss rs at i k n u h g = let e : k ≡ n = omega arith in rw e at u

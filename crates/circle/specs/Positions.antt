@@ -1,9 +1,10 @@
 -- Resends as the code keeps them: the circle's numbers, a position on it, and the step from one resend to the next. Assumes nothing.
+use mathlib.Core.Bool.{Bool, _&&_}
 use mathlib.Core.List.{List}
 use Prim.Native.Nat.{ℕ, _≤_, _<_, min}
 use lib.ListN.{length, getD}
 use Rattle.shares.specs.Shares.{totalOf}
-use Rattle.circle.specs.Stretches.{placeOf, movedOf}
+use Rattle.circle.specs.Stretches.{placeOf, samePlace, movedOf}
 use Rattle.circle.specs.Circle.{circleUnits, factorOf, sendLayout, receiveLayout, unitOf, senderOf, receiverOf, runOf}
 use Rattle.circle.specs.declared.walk.Circle.{Circle}
 use Rattle.circle.specs.declared.walk.Position.{Position}
@@ -33,6 +34,10 @@ positionAt ss rs x = record { sender = placeOf (sendLayout ss rs) x; receiver = 
 -- where resend n starts
 unfoldable pub positionOf : List ℕ → List ℕ → ℕ → ℕ → Position
 positionOf ss rs i n = positionAt ss rs (unitOf ss rs i n)
+
+-- two positions are the same: they are so in both layouts
+unfoldable pub samePosition : Position → Position → Bool
+samePosition a b = samePlace (a .sender) (b .sender) && samePlace (a .receiver) (b .receiver)
 
 -- the run of a position: the units up to the next stretch end in either layout
 unfoldable pub runAt : Position → ℕ

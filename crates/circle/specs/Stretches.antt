@@ -1,8 +1,8 @@
 -- One cluster's layout: the lengths of its members' stretches, laid one after another from unit 0. Assumes nothing.
-use mathlib.Core.Bool.{cond}
+use mathlib.Core.Bool.{Bool, cond, _&&_}
 use mathlib.Core.List.{List, [], _∷_}
 use Prim.Native.Nat.{ℕ, suc, _+_, _-_, _*_}
-use lib.Dec.{leb, ltb}
+use lib.Dec.{eqb, leb, ltb}
 use lib.ListN.{length, getD}
 use Rattle.basics.specs.Sums.{sumBelow}
 use Rattle.circle.specs.declared.stretches.Place.{Place}
@@ -33,6 +33,10 @@ endAfter (w ∷ ws) x = cond (ltb x w) w (w + endAfter ws (x - w))
 -- where unit x lies: its owner, and the units left of that stretch, unit x among them
 unfoldable pub placeOf : List ℕ → ℕ → Place
 placeOf layout x = record { member = ownerOf layout x; left = endAfter layout x - x }
+
+-- two places are the same: of the same member, with as many units left
+unfoldable pub samePlace : Place → Place → Bool
+samePlace a b = eqb (a .member) (b .member) && eqb (a .left) (b .left)
 
 -- the member after member i, member 0 coming after the last of n
 unfoldable pub following : ℕ → ℕ → ℕ

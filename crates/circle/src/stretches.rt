@@ -3,7 +3,7 @@ ghost use mathlib.Core.Path.{_≡_};
 ghost use Prim.Native.Nat.{_+_, _*_, _%_, _<_, _≤_};
 ghost use lib.ListN.{length, getD};
 ghost use Rattle.shares.specs.Shares.{totalOf};
-ghost use Rattle.circle.specs.Stretches.{scaled, endOf, placeOf, following, movedOf};
+ghost use Rattle.circle.specs.Stretches.{scaled, endOf, placeOf, samePlace, following, movedOf};
 
 // Where a unit lies: its owner, and the units left of the owner's stretch, the unit itself among them.
 pub struct Place {
@@ -12,7 +12,7 @@ pub struct Place {
 }
 
 // The length of member i's stretch.
-fn stretch(shares: &[u32], factor: u64, i: usize) -> u64
+pub(crate) fn stretch(shares: &[u32], factor: u64, i: usize) -> u64
     requires { ⌜ (factor ≤ 64000000) × (i < length (now shares)) ⌝ }
     ensures { λ r. ⌜ r ≡ factor * getD (now (shares .entry)) i 0 ⌝ }
 {
@@ -52,7 +52,7 @@ pub fn locate(shares: &[u32], factor: u64, x: u64) -> Place
 }
 
 // The member after member i of n: member 0 comes after the last.
-fn member_after(n: usize, i: usize) -> usize
+pub(crate) fn member_after(n: usize, i: usize) -> usize
     requires { ⌜ i < n ⌝ }
     ensures { λ r. ⌜ (r ≡ following n i) × (r < n) ⌝ }
 {
@@ -76,4 +76,11 @@ pub fn moved(shares: &[u32], factor: u64, at: Place, run: u64) -> Place
         member: at.member,
         left: at.left - run,
     }
+}
+
+// Whether two places are the same.
+pub(crate) fn is_same_place(a: Place, b: Place) -> bool
+    ensures { λ r. ⌜ r ≡ samePlace a b ⌝ }
+{
+    (a.member == b.member) & (a.left == b.left)
 }

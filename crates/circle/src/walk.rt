@@ -1,13 +1,15 @@
 // The walk of the resends on the circle, one step a resend.
 use crate::euclid::multiple;
 use crate::stretches::Place;
+use crate::stretches::is_same_place;
 use crate::stretches::locate;
 use crate::stretches::moved;
 use crate::stretches::stretch_end;
 ghost use mathlib.Core.Path.{_≡_};
-ghost use Prim.Native.Nat.{_<_, _≤_};
+ghost use mathlib.Core.Bool.{cond};
+ghost use Prim.Native.Nat.{_%_, _<_, _≤_};
 ghost use lib.ListN.{length};
-ghost use Rattle.circle.specs.Positions.{Sized, OnCircle, circleOf, positionOf, runAt, nextOf, resendFrom, resendOf};
+ghost use Rattle.circle.specs.Positions.{Sized, OnCircle, circleOf, positionOf, samePosition, runAt, nextOf, resendFrom, resendOf};
 
 // L and the two scale factors.
 pub struct Circle {
@@ -87,17 +89,35 @@ pub fn resend_from(at: Position) -> Resend
     }
 }
 
-// Where resend n starts, the original sender being member i.
+// Whether two positions are the same: whether the walk is back.
+pub(crate) fn is_same(a: Position, b: Position) -> bool
+    ensures { λ r. ⌜ r ≡ samePosition a b ⌝ }
+{
+    is_same_place(a.sender, b.sender) & is_same_place(a.receiver, b.receiver)
+}
+
+// The steps that are left to walk after k: once the walk is back, each k of them lead back again.
+fn steps_left(back: bool, left: u32, k: u32) -> u32
+    requires { ⌜ 1 ≤ k ⌝ }
+    ensures { λ r. ⌜ (r ≡ cond back (left % k) left) × (r ≤ left) ⌝ }
+{
+    if back { left % k } else { left }
+}
+
+// Where resend n starts, the original sender being member i; of whole turns, only the first is walked.
 fn position_of(ss: &[u32], rs: &[u32], i: usize, n: u32) -> Position
     requires { ⌜ (Sized (now ss)) × (Sized (now rs)) × (i < length (now ss)) × (1 ≤ n) ⌝ }
     ensures { λ r. ⌜ r ≡ positionOf (now (ss .entry)) (now (rs .entry)) i n ⌝ }
 {
     let c = circle_of(ss, rs);
-    let mut at = start(ss, rs, c, i);
-    let mut k: u32 = 1;
-    while k < n {
+    let first = start(ss, rs, c, i);
+    let mut at = first;
+    let mut k: u32 = 0;
+    let mut left = n - 1;
+    while 0 < left {
         at = next(ss, rs, c, at);
         k += 1;
+        left = steps_left(is_same(at, first), left - 1, k);
     }
     at
 }

@@ -1,20 +1,23 @@
--- The turns of the loops that count, and the branch that gives a leftover. Assumes nothing.
-use mathlib.Core.Path.{_≡_, refl, ap, _∙_}
+-- The turns of the loops that count, and what quotas and keys say of the counts. Assumes nothing.
+use mathlib.Core.Path.{_≡_, refl, ap, sym, _∙_}
+use mathlib.Core.Bool.{Bool, true, false, cond}
 use mathlib.Core.List.{List, _++_}
 use Prim.Native.Nat.{ℕ, zero, suc, _+_, _*_, _-_, _/_, _%_, _^_, _≤_, _<_}
 use native.Mathlib.Decide.{decLe}
 use native.Mathlib.Nat.{mul-le-mul-left}
 use native.Mathlib.Omega.{arith}
-use lib.ListN.{length, getD, drop, set, replicate, List·getD-append}
-use mir.Val.{Fits}
+use lib.Dec.{ltb}
+use lib.ListN.{length, getD, drop, set, List·getD-append}
+use lib.Seq.{drop-cons, drop-at, getD-at}
+use mir.Val.{Fits, boolByte}
 use mir.Syntax.{w32, w64}
-use borrow.Author.Tests.{lt-ltb, le-ltb}
 use Rattle.basics.specs.Sums.{sumBelow, howMany, listBelow}
-use Rattle.basics.proofs.SumLaws.{sum-more, sum-part, length-list, list-turn, list-at}
+use Rattle.basics.proofs.SumLaws.{sum-more, sum-part, length-list, list-turn, list-at, list-is}
 use Rattle.shares.specs.Shares.{totalOf}
-use Rattle.hamilton.specs.Hamilton.{quotaOf, remainderOf, undealtOf, goesFirst, aheadOf, rankOf, countOf, Dealable}
-use Rattle.basics.proofs.HowManyLaws.{many-cong}
-use Rattle.hamilton.proofs.QuotaLaws.{quotas-le}
+use Rattle.hamilton.specs.Hamilton.{quotaOf, remainderOf, undealtOf, countOf, countsOf, Dealable}
+use Rattle.basics.proofs.HowManyLaws.{one, many-cong}
+use Rattle.hamilton.proofs.RankLaws.{under, under-all}
+use Rattle.hamilton.proofs.QuotaLaws.{quotas-le, few-undealt, key, key-lt, keys-apart, count-by-key}
 
 pub product : (a b : ℕ) → Fits w32 a → Fits w32 b → Fits w64 (a * b)
 product a b f g =
@@ -41,10 +44,13 @@ pub list-next : (f : ℕ → ℕ) (i n v : ℕ) (l o : List ℕ) → i < n → n
     → set l i v ≡ listBelow (i + 1) f ++ drop (i + 1) o
 list-next f i n v l o a b c e g = list-turn f o e (omega arith) c g
 
--- ---- what the lower quotas leave
+-- ---- a member's lower quota and key, and what the lower quotas leave
+quota-le : (s : List ℕ) (q : ℕ) → Dealable s q → (i : ℕ) → i < length s → quotaOf s q i ≤ 1024
+quota-le s q h i l = omega (arith, sum-part (quotaOf s q) (length s) i l, quotas-le s q h, h .small-quantum)
+
 module _ (s : List ℕ) (q d i : ℕ) (h : Dealable s q) (e : d ≡ totalOf s) where
   module _ (x : ℕ) (f : x ≡ getD s i 0 * q) where
-    quota-told : x / d ≡ quotaOf s q i
+    pub quota-told : x / d ≡ quotaOf s q i
     unfolding quotaOf
     quota-told = rw (f, e) refl
 
@@ -52,23 +58,11 @@ module _ (s : List ℕ) (q d i : ℕ) (h : Dealable s q) (e : d ≡ totalOf s) w
     unfolding remainderOf
     remainder-told = rw (f, e) refl
 
-    -- a lower quota, and one more, fit: neither is above q + 1
-    quota-small : i < length s → x / d ≤ 1024
-    quota-small l = omega (arith, quota-told, sum-part (quotaOf s q) (length s) i l, quotas-le s q h, h .small-quantum)
-
-    pub one-more-wide : i < length s → Fits w64 (x / d + 1)
-    one-more-wide l = record { fits = omega (arith, quota-small l) }
-
-    pub one-more-fits : i < length s → Fits w32 (x / d + 1)
-    one-more-fits l = record { fits = omega (arith, quota-small l) }
-
     pub quota-fits : i < length s → Fits w32 (x / d)
-    quota-fits l = record { fits = omega (arith, quota-small l) }
+    quota-fits l = record { fits = omega (arith, quota-told, quota-le s q h i l) }
 
-    -- one remainder more, stored behind those that are there
-    pub remainder-turn : (l : List ℕ) → i < length s → length l ≡ 64 → l ≡ listBelow i (remainderOf s q) ++ drop i (replicate 64 0)
-        → set l i (x % d) ≡ listBelow (i + 1) (remainderOf s q) ++ drop (i + 1) (replicate 64 0)
-    remainder-turn l a b c = list-next (remainderOf s q) i (length s) (x % d) l (replicate 64 0) a (h .few-members) b c remainder-told
+    pub key-told : (v : ℕ) → v ≡ (d - x % d) * 64 + i → v ≡ key s q i
+    key-told v k = k ∙ rw (remainder-told, e) refl
 
     module _ (rest : ℕ) (l : i < length s) (u : rest + sumBelow i (quotaOf s q) ≡ q) where
       pub undealt-fits : x / d ≤ rest
@@ -87,23 +81,69 @@ undealt-done s q i rest a b e =
     let z : i ≡ length s = omega arith in
     omega (arith, ap (λ (k : ℕ). sumBelow k (quotaOf s q)) z)
 
--- ---- a member's rank and count
-module _ (s : List ℕ) (q i : ℕ) (l : i < length s) (left z : List ℕ) (e : left ≡ listBelow (length s) (remainderOf s q) ++ drop (length s) z) where
-  at-left : (j : ℕ) → j < length s → getD left j 0 ≡ remainderOf s q j
-  at-left j k = rw e (list-front (remainderOf s q) (length s) j (drop (length s) z) k)
+-- ---- the counts, by the quotas and keys of all members
+-- a test that is made a number
+pub as-number : (t : Bool) → boolByte t ≡ one t
+as-number true = refl
+as-number false = refl
 
-  pub rank-told : (n : ℕ) → n ≡ howMany (length s) (λ j. goesFirst (getD left j 0) j (getD left i 0) i) → n ≡ rankOf s q i
-  unfolding rankOf aheadOf
-  rank-told n f =
-      f ∙ many-cong (λ j. goesFirst (getD left j 0) j (getD left i 0) i) (λ j. goesFirst (remainderOf s q j) j (remainderOf s q i) i) (length s)
-      (λ j k. rw (at-left j k, at-left i l) refl)
+-- a loop that reads what is stored at place i and stores what comes of it
+module _ (f : ℕ → ℕ) (i n : ℕ) (l o : List ℕ) (a : i < n) (b : n ≤ length o) (e : l ≡ listBelow i f ++ drop i o) where
+  list-unread : getD l i 0 ≡ getD o i 0
+  list-unread = rw (e, drop-cons o i 0 (omega arith)) (getD-at (listBelow i f) (getD o i 0) (drop (suc i) o) 0 i (length-list f i))
 
-  module _ (d : ℕ) (h : Dealable s q) (t : d ≡ totalOf s) (x n rest : ℕ) (f : x ≡ getD s i 0 * q)
-      (r : n ≡ howMany (length s) (λ j. goesFirst (getD left j 0) j (getD left i 0) i)) (u : rest ≡ undealtOf s q) where
-    pub count-more : n < rest → x / d + 1 ≡ countOf s q i
-    unfolding countOf
-    count-more g = simp (lt-ltb (rankOf s q i) (undealtOf s q) (omega (arith, rank-told n r))) (omega (arith, quota-told s q d i h t x f))
+  pub unread-small : ((j : ℕ) → j < n → getD o j 0 ≤ 1024) → getD l i 0 ≤ 1024
+  unread-small h = omega (arith, list-unread, h i a)
 
-    pub count-same : rest ≤ n → x / d ≡ countOf s q i
-    unfolding countOf
-    count-same g = simp (le-ltb (rankOf s q i) (undealtOf s q) (omega (arith, rank-told n r))) (omega (arith, quota-told s q d i h t x f))
+-- and one that adds one to those whose key is below the end
+pub leftover-turn : (keys : List ℕ) (end i n v : ℕ) (l o : List ℕ) → i < n → n ≤ length o → length l ≡ length o
+    → l ≡ listBelow i (λ j. getD o j 0 + cond (ltb (getD keys j 0) end) 1 0) ++ drop i o
+    → v ≡ getD l i 0 + cond (ltb (getD keys i 0) end) 1 0
+    → set l i v ≡ listBelow (i + 1) (λ j. getD o j 0 + cond (ltb (getD keys j 0) end) 1 0) ++ drop (i + 1) o
+leftover-turn keys end i n v l o a b c e g =
+    let f : ℕ → ℕ = λ j. getD o j 0 + one (ltb (getD keys j 0) end) in
+    list-next f i n v l o a b c e (omega (arith, list-unread f i n l o a b e))
+
+pub rest-few : (s : List ℕ) (q : ℕ) → Dealable s q → (rest : ℕ) → rest ≡ undealtOf s q → rest < length s
+rest-few s q h rest u = omega (arith, few-undealt s q h)
+
+module _ (s : List ℕ) (q : ℕ) (h : Dealable s q) (keys z : List ℕ) (e : keys ≡ listBelow (length s) (key s q) ++ drop (length s) z) where
+  key-at : (i : ℕ) → i < length s → getD keys i 0 ≡ key s q i
+  key-at i l = rw e (list-front (key s q) (length s) i (drop (length s) z) l)
+
+  pub keys-differ : (i j : ℕ) → i < j → j < length s → getD keys i 0 ≡ getD keys j 0 → ⊥
+  keys-differ i j l m f = keys-apart s q h i j l m (sym (key-at i (omega arith)) ∙ f ∙ key-at j m)
+
+  module _ (rest : ℕ) (u : rest ≡ undealtOf s q) where
+    pub all-below : (d : ℕ) → d ≡ totalOf s → rest < howMany (length s) (λ j. ltb (getD keys j 0) ((d + 1) * 64))
+    all-below d t = omega (
+      arith,
+      rest-few s q h rest u,
+      under-all (λ j. getD keys j 0) (length s) ((d + 1) * 64) (λ j l. omega (arith, key-at j l, key-lt s q h j l)),
+    )
+
+    module _ (low o : List ℕ) (f : low ≡ listBelow (length s) (quotaOf s q) ++ drop (length s) o) where
+      quota-at : (i : ℕ) → i < length s → getD low i 0 ≡ quotaOf s q i
+      quota-at i l = rw f (list-front (quotaOf s q) (length s) i (drop (length s) o) l)
+
+      pub quotas-small : (i : ℕ) → i < length s → getD low i 0 ≤ 1024
+      quotas-small i l = omega (arith, quota-at i l, quota-le s q h i l)
+
+      count-at : (end i : ℕ) → rest ≡ under (λ j. getD keys j 0) (length s) end → i < length s
+          → getD low i 0 + one (ltb (getD keys i 0) end) ≡ countOf s q i
+      count-at end i g l =
+          rw (quota-at i l, key-at i l)
+          (sym (count-by-key s q h end i
+          (sym u ∙ g ∙ many-cong (λ j. ltb (getD keys j 0) end) (λ j. ltb (key s q j) end) (length s) (λ j m. rw (key-at j m) refl)) l))
+
+      pub counts-told : (end : ℕ) (l : List ℕ) → rest ≡ howMany (length s) (λ j. ltb (getD keys j 0) end)
+          → l ≡ listBelow (length s) (λ i. getD low i 0 + cond (ltb (getD keys i 0) end) 1 0) ++ drop (length s) low
+          → l ≡ countsOf s q ++ drop (length s) o
+      unfolding countsOf
+      counts-told end l g k =
+          let n = length s in
+          let each : ℕ → ℕ = λ i. getD low i 0 + one (ltb (getD keys i 0) end) in
+          let front : listBelow n each ≡ listBelow n (countOf s q) =
+          list-is (countOf s q) 0 n (listBelow n each) (length-list each n) (λ i m. list-at each 0 n i m ∙ count-at end i g m) in
+          let back : drop n low ≡ drop n o = rw f (drop-at (listBelow n (quotaOf s q)) (drop n o) n (length-list (quotaOf s q) n)) in
+          k ∙ rw (front, back) refl

@@ -61,13 +61,13 @@ module _ (s : List ℕ) (u r q : ℕ) (a : Accepted s u r) (b : isQuantum q ≡ 
       → (remainderOf s q j < remainderOf s q i) ⊎ ((remainderOf s q i ≡ remainderOf s q j) × (i < j))
   unfolding countOf
   leftover-to-the-larger i j l m e f =
-      let x = key s q deals i in
-      let y = key s q deals j in
+      let x = key s q i in
+      let y = key s q j in
       let few : rankOf s q i < undealtOf s q = has-one (quotaOf s q i) (rankOf s q i) (undealtOf s q) e in
       let many : undealtOf s q ≤ rankOf s q j = has-none (quotaOf s q j) (rankOf s q j) (undealtOf s q) f in
       let before : x < y = elim (decLt x y) [
         | yes k ↦ k
-        | no k ↦ absurd (omega (arith, rank-key s q deals i l, rank-key s q deals j m, under-mono (key s q deals) (length s) y x (omega arith)))
+        | no k ↦ absurd (omega (arith, rank-key s q deals i l, rank-key s q deals j m, under-mono (key s q) (length s) y x (omega arith)))
       ] in
       ahead-means s q i j (ahead-key s q deals i j l m ∙ lt-ltb x y before)
 

@@ -1,5 +1,5 @@
 -- Quotas, remainders and ranks of a cluster that can be dealt: the counts add up to the quantum. Assumes nothing.
-use mathlib.Core.Path.{_≡_, ap, sym, _∙_}
+use mathlib.Core.Path.{_≡_, refl, ap, sym, _∙_}
 use mathlib.Core.List.{List, [], _∷_}
 use mathlib.Core.Logic.{inl, inr}
 use Prim.Native.Nat.{ℕ, _+_, _*_, _-_, _<_, _≤_}
@@ -16,7 +16,7 @@ use Rattle.shares.specs.Shares.{totalOf}
 use Rattle.shares.proofs.ShareLaws.{total-none}
 use Rattle.hamilton.specs.Hamilton.{quotaOf, remainderOf, undealtOf, goesFirst, aheadOf, rankOf, countOf, Dealable}
 use Rattle.basics.proofs.HowManyLaws.{one, many-cong}
-use Rattle.hamilton.proofs.RankLaws.{under, Apart, ranks}
+use Rattle.hamilton.proofs.RankLaws.{under, Apart, ranks, first-below}
 
 -- the order of two members, as an order of numbers
 first-key : (d x j y i : ℕ) → x ≤ d → y ≤ d → j < 64 → i < 64 → goesFirst x j y i ≡ ltb ((d - x) * 64 + j) ((d - y) * 64 + i)
@@ -52,6 +52,10 @@ members : (s : List ℕ) → 0 < totalOf s → 0 < length s
 members [] l = absurd (omega (arith, total-none))
 members (x ∷ s) l = omega arith
 
+-- the order of the members, as an order of keys
+abbrev pub key : List ℕ → ℕ → ℕ → ℕ
+key s q i = (totalOf s - remainderOf s q i) * 64 + i
+
 module _ (s : List ℕ) (q : ℕ) (h : Dealable s q) where
   pub some-member : 0 < length s
   some-member = members s (h .some-total)
@@ -80,29 +84,34 @@ module _ (s : List ℕ) (q : ℕ) (h : Dealable s q) where
       let done : q < used + n = lt-of-mul-lt-mul-right (totalOf s) all in
       omega (arith, quotas-and-undealt)
 
-  -- ---- the order of the members, as an order of keys
-  abbrev pub key : ℕ → ℕ
-  key i = (totalOf s - remainderOf s q i) * 64 + i
-
-  pub ahead-key : (j i : ℕ) → j < length s → i < length s → aheadOf s q j i ≡ ltb (key j) (key i)
+  -- ---- ranks by keys
+  pub ahead-key : (j i : ℕ) → j < length s → i < length s → aheadOf s q j i ≡ ltb (key s q j) (key s q i)
   unfolding aheadOf
   ahead-key j i l m =
       first-key (totalOf s) (remainderOf s q j) j (remainderOf s q i) i
       (omega (arith, remainder-lt j)) (omega (arith, remainder-lt i)) (omega (arith, h .few-members)) (omega (arith, h .few-members))
 
-  pub rank-key : (i : ℕ) → i < length s → rankOf s q i ≡ under key (length s) (key i)
+  pub rank-key : (i : ℕ) → i < length s → rankOf s q i ≡ under (key s q) (length s) (key s q i)
   unfolding rankOf
-  rank-key i l = many-cong (λ j. aheadOf s q j i) (λ j. ltb (key j) (key i)) (length s) (λ j m. ahead-key j i m l)
+  rank-key i l = many-cong (λ j. aheadOf s q j i) (λ j. ltb (key s q j) (key s q i)) (length s) (λ j m. ahead-key j i m l)
 
-  keys-apart : Apart key (length s)
+  pub keys-apart : Apart (key s q) (length s)
   keys-apart i j l m e = omega (arith, remainder-lt i, remainder-lt j, h .few-members)
+
+  pub key-lt : (i : ℕ) → i < length s → key s q i < (totalOf s + 1) * 64
+  key-lt i l = omega (arith, h .few-members)
+
+  -- the leftovers go to the keys below a number that as many keys are below
+  pub count-by-key : (end i : ℕ) → undealtOf s q ≡ under (key s q) (length s) end → i < length s → countOf s q i ≡ quotaOf s q i + one (ltb (key s q i) end)
+  unfolding countOf
+  count-by-key end i e l = rw (rank-key i l, e, first-below (key s q) (length s) end i l) refl
 
   -- the leftovers go to just as many members as there are leftovers
   pub leftovers : howMany (length s) (λ i. ltb (rankOf s q i) (undealtOf s q)) ≡ undealtOf s q
   leftovers =
-      many-cong (λ i. ltb (rankOf s q i) (undealtOf s q)) (λ i. ltb (under key (length s) (key i)) (undealtOf s q)) (length s)
+      many-cong (λ i. ltb (rankOf s q i) (undealtOf s q)) (λ i. ltb (under (key s q) (length s) (key s q i)) (undealtOf s q)) (length s)
       (λ i l. ap (λ (x : ℕ). ltb x (undealtOf s q)) (rank-key i l))
-      ∙ ranks key (length s) (undealtOf s q) keys-apart (omega (arith, few-undealt))
+      ∙ ranks (key s q) (length s) (undealtOf s q) keys-apart (omega (arith, few-undealt))
 
   pub counts-sum : sumBelow (length s) (countOf s q) ≡ q
   unfolding countOf howMany

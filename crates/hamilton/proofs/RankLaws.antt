@@ -1,8 +1,9 @@
--- Where members are ranked by keys that differ, just m of them have a rank below m. Assumes nothing.
+-- Where members are ranked by keys that differ, just m of them have a rank below m, and a number parts them from the others. Assumes nothing.
 use mathlib.Core.Path.{_≡_, refl, ap, _∙_}
 use mathlib.Core.Bool.{Bool}
-use Prim.Native.Nat.{ℕ, zero, suc, _+_, _-_, _<_, _≤_}
+use Prim.Native.Nat.{ℕ, zero, suc, _+_, _-_, _%_, _<_, _≤_}
 use native.Mathlib.Decide.{decLt}
+use native.Mathlib.Nat.{mod-lt}
 use native.Mathlib.Omega.{arith}
 use lib.Dec.{ltb}
 use borrow.Author.Tests.{lt-ltb, le-ltb, ltb-true}
@@ -12,6 +13,10 @@ use Rattle.basics.proofs.HowManyLaws.{one, many-none, many-suc, many-le, many-c
 
 pub ltb-same : (a b x y : ℕ) → (a < b → x < y) → (x < y → a < b) → ltb a b ≡ ltb x y
 ltb-same a b x y f g = same-test (ltb a b) (ltb x y) (λ t. lt-ltb x y (f (ltb-true a b t))) (λ t. lt-ltb a b (g (ltb-true x y t)))
+
+-- the next of n places, counted round: there is one where one is below n
+pub next-place : (a n m : ℕ) → m < n → a % n < n
+next-place a n m l = mod-lt a (omega arith)
 
 -- how many of the first n have a smaller key than k
 abbrev pub under : (ℕ → ℕ) → ℕ → ℕ → ℕ
@@ -84,3 +89,47 @@ module _ (key : ℕ → ℕ) where
           ap one (le-ltb (under key (suc n) (key n)) m (omega arith)),
         )
       ]
+
+  -- ---- a number that parts the keys
+  under-none : (n : ℕ) → 0 ≡ under key n 0
+  under-none zero = many-none (λ j. ltb (key j) 0)
+  under-none (suc n) = omega (arith, kept n 0 (omega arith), under-none n)
+
+  pub none-below : (n m : ℕ) → m ≡ 0 → m ≡ under key n 0
+  none-below n m e = e ∙ under-none n
+
+  pub few-below : (n m : ℕ) → under key n 0 ≤ m
+  few-below n m = omega (arith, under-none n)
+
+  pub under-all : (n k : ℕ) → ((j : ℕ) → j < n → key j < k) → under key n k ≡ n
+  under-all zero k h = omega (arith, many-none (λ j. ltb (key j) k))
+  under-all (suc n) k h = omega (arith, raised n k (h n (omega arith)), under-all n k (λ j l. h j (omega arith)))
+
+  -- the keys differ, so that from one number to the next at most one key more is below
+  under-next : (n k : ℕ) → Apart n → under key n (k + 1) ≤ under key n k + 1
+  under-next zero k d = omega (arith, many-none (λ j. ltb (key j) (k + 1)))
+  under-next (suc n) k d =
+      let before : Apart n = λ i j l m. d i j l (omega arith) in
+      elim (decLt (key n) k) [
+        | yes l ↦ omega (arith, raised n k l, raised n (k + 1) (omega arith), under-next n k before)
+        | no l ↦ elim (decLt k (key n)) [
+          | yes m ↦ omega (arith, kept n k (omega arith), kept n (k + 1) (omega arith), under-next n k before)
+          | no m ↦ omega (
+            arith,
+            kept n k (omega arith),
+            raised n (k + 1) (omega arith),
+            many-cong (λ j. ltb (key j) (k + 1)) (λ j. ltb (key j) k) n
+                (λ i h. ltb-same (key i) (k + 1) (key i) k (λ a. omega (arith, d i n h (omega arith))) (λ a. omega arith)),
+          )
+        ]
+      ]
+
+  -- where halving ends: m keys are below the low end, for at most m are, more than m below the high end, and one number lies between them
+  pub halves-met : (n m low high : ℕ) → Apart n → under key n low ≤ m → m < under key n high → high ≤ low + 1 → m ≡ under key n low
+  halves-met n m low high d a b c = omega (arith, under-mono n high (low + 1) c, under-next n low d)
+
+  -- the first m are those below the number that m keys are below
+  pub first-below : (n k i : ℕ) → i < n → ltb (under key n (key i)) (under key n k) ≡ ltb (key i) k
+  first-below n k i l = ltb-same (under key n (key i)) (under key n k) (key i) k
+      (λ a. elim (decLt (key i) k) [ yes h ↦ h | no h ↦ absurd (omega (arith, under-mono n k (key i) (omega arith))) ])
+      (λ a. under-strict n i k l a)

@@ -1,29 +1,36 @@
 // Hamilton's counts of an accepted cluster.
-use crate::ranks::rank;
-use crate::ranks::remainders;
-use crate::ranks::times;
-use crate::ranks::undealt;
+use crate::quotas::fill_quotas;
+use crate::ranks::is_below;
+use crate::ranks::threshold;
 ghost use mathlib.Core.Path.{_≡_};
+ghost use mathlib.Core.Bool.{cond};
 ghost use mathlib.Core.List.{_++_};
-ghost use Prim.Native.Nat.{_≤_, _<_};
-ghost use lib.ListN.{length, drop, replicate};
+ghost use Prim.Native.Nat.{ℕ, _+_, _≤_, _<_};
+ghost use lib.Dec.{ltb};
+ghost use lib.ListN.{length, getD, drop};
 ghost use Rattle.basics.specs.Sums.{listBelow};
-ghost use Rattle.shares.specs.Shares.{totalOf};
-ghost use Rattle.hamilton.specs.Hamilton.{remainderOf, undealtOf, countOf, countsOf, Dealable};
+ghost use Rattle.hamilton.specs.Hamilton.{countsOf, Dealable};
 ghost use Rattle.hamilton.specs.Counts.{countsRefusal, countsOut};
 
-// The count of member i: its lower quota, and one more where few enough come ahead of it.
-fn count(shares: &[u32], q: u32, d: u64, left: &[u64; 64], rest: u64, i: usize) -> u32
-    requires { ⌜ Dealable (now shares) q ⌝ }
-    requires { ⌜ (d ≡ totalOf (now shares)) × (rest ≡ undealtOf (now shares) q) × (i < length (now shares)) ⌝ }
-    requires { ⌜ now left ≡ listBelow (length (now shares)) (remainderOf (now shares) q) ++ drop (length (now shares)) (replicate 64 0) ⌝ }
-    ensures { λ r. ⌜ r ≡ countOf (now (shares .entry)) q i ⌝ }
+// A lower quota, and one more where the member's key is below the end.
+fn count(quota: u32, key: u64, end: u64) -> u32
+    requires { ⌜ quota ≤ 1024 ⌝ }
+    ensures { λ r. ⌜ r ≡ quota + cond (ltb key end) 1 0 ⌝ }
 {
-    let low = times(shares[i], q) / d;
-    if rank(left, shares.len(), i) < rest {
-        return (low + 1) as u32;
+    quota + (is_below(key, end) as u32)
+}
+
+// Turns the lower quotas of n members into their counts.
+fn add_leftovers(keys: &[u64; 64], n: usize, end: u64, out: &mut [u32])
+    requires { ⌜ (n ≤ 64) × (n ≤ length (now out)) ⌝ }
+    requires { ⌜ ((i : ℕ) → i < n → getD (now out) i 0 ≤ 1024) ⌝ }
+    ensures { λ _. ⌜ now (out .exit) ≡ listBelow n (λ i. getD (now (out .entry)) i 0 + cond (ltb (getD (now (keys .entry)) i 0) end) 1 0) ++ drop n (now (out .entry)) ⌝ }
+{
+    let mut i = 0;
+    while i < n {
+        out[i] = count(out[i], keys[i], end);
+        i += 1;
     }
-    low as u32
 }
 
 // Fills the output with the counts, one place for each member.
@@ -34,13 +41,10 @@ pub fn fill_counts(shares: &[u32], q: u32, out: &mut [u32])
     ensures { λ _. ⌜ now (out .exit) ≡ countsOf (now (shares .entry)) q ++ drop (length (now (shares .entry))) (now (out .entry)) ⌝ }
 {
     let d = shares::total(shares);
-    let left = remainders(shares, q, d);
-    let rest = undealt(shares, q, d);
-    let mut i = 0;
-    while i < shares.len() {
-        out[i] = count(shares, q, d, &left, rest, i);
-        i += 1;
-    }
+    let mut keys = [0u64; 64];
+    let rest = fill_quotas(shares, q, d, &mut keys, out);
+    let end = threshold(&keys, shares.len(), rest, (d + 1) * 64);
+    add_leftovers(&keys, shares.len(), end, out);
 }
 
 // The refusal of the call for counts, for an output of so many places.

@@ -1,68 +1,72 @@
-// What Hamilton's method needs of each member: quotas, remainders and the members' order.
+// Which members come first: a number that parts their keys.
 ghost use mathlib.Core.Path.{_≡_};
 ghost use mathlib.Core.Bool.{cond};
-ghost use mathlib.Core.List.{_++_};
-ghost use Prim.Native.Nat.{_*_, _≤_, _<_};
-ghost use lib.ListN.{length, getD, drop, replicate};
-ghost use Rattle.basics.specs.Sums.{howMany, listBelow};
-ghost use Rattle.shares.specs.Shares.{totalOf};
-ghost use Rattle.hamilton.specs.Hamilton.{goesFirst, remainderOf, undealtOf, Dealable};
+ghost use Prim.Native.Nat.{ℕ, _+_, _*_, _≤_, _<_};
+ghost use lib.Dec.{ltb};
+ghost use lib.ListN.{getD};
+ghost use Rattle.basics.specs.Sums.{howMany};
 
-// A share times the quantum.
-pub(crate) fn times(share: u32, q: u32) -> u64
-    ensures { λ r. ⌜ r ≡ share * q ⌝ }
+// 1 where the key is below the end, else 0.
+pub(crate) fn is_below(key: u64, end: u64) -> u64
+    ensures { λ r. ⌜ (r ≡ cond (ltb key end) 1 0) × (r ≤ 1) ⌝ }
 {
-    (share as u64) * (q as u64)
+    (key < end) as u64
 }
 
-// What the lower quotas leave of the quantum.
-pub(crate) fn undealt(shares: &[u32], q: u32, d: u64) -> u64
-    requires { ⌜ Dealable (now shares) q ⌝ }
-    requires { ⌜ d ≡ totalOf (now shares) ⌝ }
-    ensures { λ r. ⌜ r ≡ undealtOf (now (shares .entry)) q ⌝ }
+// How many of n keys are below the end.
+fn below(keys: &[u64; 64], n: usize, end: u64) -> u64
+    requires { ⌜ n ≤ 64 ⌝ }
+    ensures { λ r. ⌜ r ≡ howMany n (λ j. ltb (getD (now (keys .entry)) j 0) end) ⌝ }
 {
-    let mut rest = q as u64;
-    let mut i = 0;
-    while i < shares.len() {
-        rest -= times(shares[i], q) / d;
-        i += 1;
-    }
-    rest
-}
-
-// Every member's remainder. Ranking compares each with each, so they are divided out once.
-pub(crate) fn remainders(shares: &[u32], q: u32, d: u64) -> [u64; 64]
-    requires { ⌜ Dealable (now shares) q ⌝ }
-    requires { ⌜ d ≡ totalOf (now shares) ⌝ }
-    ensures { λ r. ⌜ r ≡ listBelow (length (now (shares .entry))) (remainderOf (now (shares .entry)) q) ++ drop (length (now (shares .entry))) (replicate 64 0) ⌝ }
-{
-    let mut left = [0u64; 64];
-    let mut i = 0;
-    while i < shares.len() {
-        left[i] = times(shares[i], q) % d;
-        i += 1;
-    }
-    left
-}
-
-// 1 where remainder x of member j goes before remainder y of member i, else 0.
-fn goes_first(x: u64, j: usize, y: u64, i: usize) -> u64
-    ensures { λ r. ⌜ (r ≡ cond (goesFirst x j y i) 1 0) × (r ≤ 1) ⌝ }
-{
-    if (y < x) | ((x == y) & (j < i)) { 1 } else { 0 }
-}
-
-// How many of n members come ahead of member i.
-pub(crate) fn rank(left: &[u64; 64], n: usize, i: usize) -> u64
-    requires { ⌜ (n ≤ 64) × (i < n) ⌝ }
-    ensures { λ r. ⌜ r ≡ howMany n (λ j. goesFirst (getD (now (left .entry)) j 0) j (getD (now (left .entry)) i 0) i) ⌝ }
-{
-    let own = left[i];
-    let mut ahead: u64 = 0;
+    let mut found: u64 = 0;
     let mut j = 0;
     while j < n {
-        ahead += goes_first(left[j], j, own, i);
+        found += is_below(keys[j], end);
         j += 1;
     }
-    ahead
+    found
+}
+
+// What to try next between two ends: a member's key where it lies there, else their middle.
+// Equal remainders have keys close together, far from most middles, and a key leads there at once.
+fn between(key: u64, low: u64, high: u64) -> u64
+    requires { ⌜ (low + 1 < high) × (high ≤ 4096 * 4294967296) ⌝ }
+    ensures { λ r. ⌜ (low < r) × (r < high) ⌝ }
+{
+    if low < key {
+        if key < high {
+            return key;
+        }
+    }
+    (low + high) / 2
+}
+
+// A number that just `rest` of n keys are below. No two keys are equal, so that there is one. With equal remainders it is
+// the key of member `rest`, tried first; then come members far apart, since neighbours with equal shares have nearly equal keys.
+pub(crate) fn threshold(keys: &[u64; 64], n: usize, rest: u64, end: u64) -> u64
+    requires { ⌜ (n ≤ 64) × (rest < n) × (end ≤ 4096 * 4294967296) ⌝ }
+    requires { ⌜ rest < howMany n (λ j. ltb (getD (now keys) j 0) end) ⌝ }
+    requires { ⌜ ((i j : ℕ) → i < j → j < n → getD (now keys) i 0 ≡ getD (now keys) j 0 → ⊥) ⌝ }
+    ensures { λ r. ⌜ rest ≡ howMany n (λ j. ltb (getD (now (keys .entry)) j 0) r) ⌝ }
+{
+    if rest == 0 {
+        return 0;
+    }
+    let mut low = 0;
+    let mut high = end;
+    let mut member = rest as usize;
+    while low + 1 < high {
+        let mid = between(keys[member], low, high);
+        member = (member + 37) % n;
+        let found = below(keys, n, mid);
+        if found == rest {
+            return mid;
+        }
+        if found < rest {
+            low = mid;
+        } else {
+            high = mid;
+        }
+    }
+    low
 }

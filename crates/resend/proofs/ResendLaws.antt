@@ -23,10 +23,12 @@ use Rattle.deal.proofs.PairLaws.{slot-fits, sender-told}
 use Rattle.deal.proofs.JudgeLaws.{pair-numbered, pair-quantum, sending-dealable, sending-accepted, receiving-accepted}
 use Rattle.deal.proofs.DealIsWhole.{sender-is-a-member}
 use Rattle.circle.specs.Positions.{Sized, resendOf}
+use Rattle.circle.specs.TurnTable.{endsOf}
 use Rattle.circle.specs.declared.walk.Resend.{Resend}
+use Rattle.circle.specs.declared.table.Ends.{Ends}
 use Rattle.circle.proofs.CircleLaws.{sized}
 use Rattle.resend.specs.declared.pairs.ResendAnswer.{ResendAnswer}
-use Rattle.resend.specs.Resends.{Ready, knownOf, senderOf, receiverOf, runOf, numberChecks, resendRefusal, noResend, resendPairOf}
+use Rattle.resend.specs.Resends.{Ready, knownEnds, senderOf, receiverOf, runOf, numberChecks, resendRefusal, noResend, resendPairOf}
 
 -- ---- the judgement
 module _ (ss : List ℕ) (su sr : ℕ) (rs : List ℕ) (ru rr q k n m : ℕ) (e : m ≡ deal.pairRefusal ss su sr rs ru rr q) where
@@ -108,8 +110,8 @@ module _ (ss rs counts : List ℕ) (q : ℕ) (y : Ready ss rs counts q) where
     pub ready-member : first < length ss
     ready-member = rw (f, y .counted) (rw (length-counts ss q) at (owner-below (countsOf ss q) q (x % q) (rw (length-counts ss q) (y .sending .some-member))))
 
-    pub ready-told : (n : ℕ) (r : Resend) → r ≡ resendOf ss rs first n → r ≡ knownOf ss rs q k n
-    unfolding knownOf senderOf receiverOf runOf resendOf
-    ready-told n r g = g ∙ ap (λ (i : ℕ). resendOf ss rs i n) first-sender
+    pub ready-told : (n : ℕ) (r : Ends) → r ≡ endsOf ss rs first n → r ≡ knownEnds ss rs q k n
+    unfolding knownEnds senderOf receiverOf endsOf
+    ready-told n r g = g ∙ ap (λ (i : ℕ). endsOf ss rs i n) first-sender
 
 pub ruleset ready = (ready-few, ready-slot, ready-member, needs)

@@ -10,7 +10,7 @@ use Rattle.deal.specs.Pairs as deal
 use Rattle.hamilton.specs.Hamilton.{countsOf, Dealable}
 use Rattle.circle.specs.Circle as circle
 use Rattle.circle.specs.Positions.{Sized}
-use Rattle.circle.specs.declared.walk.Resend.{Resend}
+use Rattle.circle.specs.declared.table.Ends.{Ends}
 use Rattle.resend.specs.declared.pairs.ResendAnswer.{ResendAnswer}
 
 -- Resend 1 of message k starts where the original sender's stretch ends: the ends and the run of resend n
@@ -23,9 +23,9 @@ receiverOf ss rs q k n = circle.receiverOf ss rs (deal.senderOf ss q k) n
 unfoldable pub runOf : List ℕ → List ℕ → ℕ → ℕ → ℕ → ℕ
 runOf ss rs q k n = circle.runOf ss rs (deal.senderOf ss q k) n
 
--- the three together
-unfoldable pub knownOf : List ℕ → List ℕ → ℕ → ℕ → ℕ → Resend
-knownOf ss rs q k n = record { sender = senderOf ss rs q k n; receiver = receiverOf ss rs q k n; run = runOf ss rs q k n }
+-- the two ends together
+unfoldable pub knownEnds : List ℕ → List ℕ → ℕ → ℕ → ℕ → Ends
+knownEnds ss rs q k n = record { sender = senderOf ss rs q k n; receiver = receiverOf ss rs q k n }
 
 -- two clusters that are accepted, a quantum that is allowed, and the counts of the sending cluster
 pub record Ready (ss rs counts : List ℕ) (q : ℕ) : Type 0 where

@@ -2,6 +2,6 @@
 mod known;
 mod pairs;
 
-pub use known::known_resend;
+pub use known::known_ends;
 pub use pairs::ResendAnswer;
 pub use pairs::resend_pair;

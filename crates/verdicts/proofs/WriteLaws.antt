@@ -23,8 +23,8 @@ use Rattle.marks.proofs.MaskLaws.{marked-none}
 use Rattle.hamilton.specs.Hamilton.{countsOf, Dealable}
 use Rattle.hamilton.proofs.JudgeLaws.{length-counts}
 use Rattle.circle.specs.Positions.{Sized}
-use Rattle.circle.specs.declared.walk.Resend.{Resend}
-use Rattle.resend.specs.Resends.{Ready, knownOf}
+use Rattle.circle.specs.declared.table.Ends.{Ends}
+use Rattle.resend.specs.Resends.{Ready, knownEnds}
 use Rattle.downstream.specs.declared.state.Entry.{Entry}
 use Rattle.downstream.specs.declared.state.Cluster.{Cluster}
 use Rattle.downstream.specs.declared.state.Downstream.{Downstream}
@@ -77,10 +77,10 @@ suffix a xs v ys l n e =
     ap (λ (t : List ℕ). take a xs ++ (ys ++ t)) none ∙ ap (λ (t : List ℕ). take a xs ++ t) (append-nil ys ∙ y)
 
 module _ (ss rs : List ℕ) (q k n : ℕ) (a : ℕ) (xs : List ℕ) (due : Bool) where
-  pub due-put : (r : Resend) (ys : List ℕ) → due ≡ true → a + 16 ≤ length xs → r ≡ knownOf ss rs q k n
+  pub due-put : (r : Ends) (ys : List ℕ) → due ≡ true → a + 16 ≤ length xs → r ≡ knownEnds ss rs q k n
       → ys ≡ verdictBytes k (r .sender) (r .receiver) n ++ drop 16 (midOf a (length xs - a) xs)
       → putMid a (length xs - a) xs ys ≡ cond due (take a xs ++ (verdictOf ss rs q k n ++ drop (a + 16) xs)) xs
-  unfolding verdictOf knownOf
+  unfolding verdictOf knownEnds
   due-put r ys t l e f =
       simp t (suffix a xs (verdictBytes k (r .sender) (r .receiver) n) ys (omega arith) (length-verdict k (r .sender) (r .receiver) n) f
       ∙ rw e refl)

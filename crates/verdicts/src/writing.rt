@@ -9,6 +9,7 @@ ghost use Prim.Native.Nat.{ℕ, _+_, _≤_};
 ghost use lib.ListN.{length, take, drop, getD};
 ghost use Rattle.hamilton.specs.Hamilton.{Dealable};
 ghost use Rattle.circle.specs.Positions.{Sized};
+ghost use Rattle.circle.specs.TurnTable.{TurnTable};
 ghost use Rattle.resend.specs.Resends.{Ready};
 ghost use Rattle.downstream.specs.State.{noEntry};
 ghost use Rattle.verdicts.specs.Written.{verdictBytes, verdictOf, verdictsTo, verdictsOf, verdictCount, Writing};
@@ -33,17 +34,22 @@ fn put_due(
     ss: &[u32],
     rs: &[u32],
     counts: &[u32],
+    senders: &[u32],
+    receivers: &[u32],
+    begins: &[u32],
+    steps: u32,
     q: u32,
     k: u64,
     count: u32,
 ) -> usize
     requires { ⌜ (at + 16 ≤ length (now out)) × (Ready (now ss) (now rs) (now counts) q) × (count ≤ 255) ⌝ }
+    requires { ⌜ TurnTable (now ss) (now rs) (now senders) (now receivers) (now begins) steps ⌝ }
     ensures { λ r. ⌜ (r ≡ cond due (at + 16) at) × (now (out .exit) ≡ cond due (take at (now (out .entry)) ++ (verdictOf (now (ss .entry)) (now (rs .entry)) q k (count + 1) ++ drop (at + 16) (now (out .entry)))) (now (out .entry))) ⌝ }
 {
     if due {
         let n = count + 1;
-        let resend = resend::known_resend(ss, rs, counts, q, k, n);
-        put_verdict(&mut out[at..], k, resend.sender, resend.receiver, n);
+        let ends = resend::known_ends(ss, rs, counts, senders, receivers, begins, steps, q, k, n);
+        put_verdict(&mut out[at..], k, ends.sender, ends.receiver, n);
         return at + 16;
     }
     at
@@ -51,6 +57,52 @@ fn put_due(
 
 // The verdicts on those of the n messages after p that are due, one after another; and how many bytes they take.
 fn put_verdicts(
+    out: &mut [u8],
+    due: u64,
+    ss: &[u32],
+    rs: &[u32],
+    counts: &[u32],
+    senders: &[u32],
+    receivers: &[u32],
+    begins: &[u32],
+    steps: u32,
+    q: u32,
+    entries: [Entry; 64],
+    p: u64,
+    n: u64,
+) -> usize
+    requires { ⌜ (1024 ≤ length (now out)) × (Ready (now ss) (now rs) (now counts) q) × (p ≤ 1000000000000) × (n ≤ 64) × ((j : ℕ) → getD entries j noEntry .count ≤ 255) ⌝ }
+    requires { ⌜ TurnTable (now ss) (now rs) (now senders) (now receivers) (now begins) steps ⌝ }
+    ensures { λ r. ⌜ (r ≡ length (verdictsTo (now (ss .entry)) (now (rs .entry)) q due entries p n)) × (now (out .exit) ≡ verdictsTo (now (ss .entry)) (now (rs .entry)) q due entries p n ++ drop r (now (out .entry))) ⌝ }
+{
+    let mut at: usize = 0;
+    let mut o: u64 = 0;
+    while o < n {
+        let place = ((p + o) % 64) as usize;
+        let e = entries[place];
+        let marked = marks::is_marked(due, o);
+        at = put_due(
+            out,
+            at,
+            marked,
+            ss,
+            rs,
+            counts,
+            senders,
+            receivers,
+            begins,
+            steps,
+            q,
+            p + 1 + o,
+            e.count,
+        );
+        o += 1;
+    }
+    at
+}
+
+// The same, the table of one turn being made once for all of them.
+fn verdicts_in_turn(
     out: &mut [u8],
     due: u64,
     ss: &[u32],
@@ -64,16 +116,25 @@ fn put_verdicts(
     requires { ⌜ (1024 ≤ length (now out)) × (Ready (now ss) (now rs) (now counts) q) × (p ≤ 1000000000000) × (n ≤ 64) × ((j : ℕ) → getD entries j noEntry .count ≤ 255) ⌝ }
     ensures { λ r. ⌜ (r ≡ length (verdictsTo (now (ss .entry)) (now (rs .entry)) q due entries p n)) × (now (out .exit) ≡ verdictsTo (now (ss .entry)) (now (rs .entry)) q due entries p n ++ drop r (now (out .entry))) ⌝ }
 {
-    let mut at: usize = 0;
-    let mut o: u64 = 0;
-    while o < n {
-        let place = ((p + o) % 64) as usize;
-        let e = entries[place];
-        let marked = marks::is_marked(due, o);
-        at = put_due(out, at, marked, ss, rs, counts, q, p + 1 + o, e.count);
-        o += 1;
-    }
-    at
+    let mut senders = [0u32; 128];
+    let mut receivers = [0u32; 128];
+    let mut begins = [128u32; 64];
+    let steps = circle::fill_turn(ss, rs, &mut senders, &mut receivers, &mut begins);
+    put_verdicts(
+        out,
+        due,
+        ss,
+        rs,
+        counts,
+        &senders,
+        &receivers,
+        &begins,
+        steps,
+        q,
+        entries,
+        p,
+        n,
+    )
 }
 
 // The same, between clusters with these shares.
@@ -93,7 +154,7 @@ fn verdicts_between(
     let mut places = [0u32; 64];
     hamilton::fill_counts(ss, q, &mut places);
     let members = ss.len();
-    put_verdicts(out, due, ss, rs, &places[..members], q, entries, p, n)
+    verdicts_in_turn(out, due, ss, rs, &places[..members], q, entries, p, n)
 }
 
 // The verdicts on the messages up to S, those that are due being known; and how many there are. Where none is due, nothing is counted out.

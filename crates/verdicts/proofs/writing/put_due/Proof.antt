@@ -7,8 +7,8 @@ use Rattle.verdicts.proofs.writing.put_due.Tie as tie
 add-n : tie.Need-add-n
 add-n c = search needs
 
-known-resend-requires : tie.Need-known-resend-requires
-known-resend-requires c κs = search needs
+known-ends-requires : tie.Need-known-ends-requires
+known-ends-requires c κs = ((search needs, search needs, search needs), search needs)
 
 sub-put-verdict : tie.Need-sub-put-verdict
 sub-put-verdict c = search needs
@@ -39,7 +39,7 @@ put-due-spec =
     tie.close
     (tie.spec
     add-n
-    known-resend-requires
+    known-ends-requires
     sub-put-verdict
     part-put-verdict-start
     part-put-verdict-end

@@ -3,6 +3,7 @@ use Prim.Native.Nat.{ℕ, _≤_, _-_, _*_}
 use mathlib.Core.Path.{_≡_}
 use mathlib.Core.List.{_++_}
 use lib.ListN.{length, drop, getD}
+use Rattle.circle.specs.TurnTable.{TurnTable}
 use Rattle.resend.specs.Resends.{Ready}
 use Rattle.downstream.specs.State.{noEntry}
 use Rattle.verdicts.specs.Written.{verdictsTo}
@@ -12,13 +13,13 @@ use Rattle.verdicts.proofs.writing.put_verdicts.Statement.{statement}
 use Rattle.verdicts.proofs.writing.put_verdicts.Tie as tie
 
 abbrev Inv-loop : tie.InvT-loop
-Inv-loop out₀ due ss rs counts q p n entries at₀ o₀ out at o = (o ≤ n) × (n ≤ 64) × (p ≤ 1000000000000) × (1024 ≤ length out₀) × (length out ≡ length out₀) × (at ≤ 16 * o) × Ready ss rs counts q × ((j : ℕ) → getD entries j noEntry .count ≤ 255) × (at ≡ length (verdictsTo ss rs q due entries p o)) × (out ≡ verdictsTo ss rs q due entries p o ++ drop at out₀)
+Inv-loop out₀ due ss rs counts senders receivers begins steps q p n entries at₀ o₀ out at o = (o ≤ n) × (n ≤ 64) × (p ≤ 1000000000000) × (1024 ≤ length out₀) × (length out ≡ length out₀) × (at ≤ 16 * o) × Ready ss rs counts q × TurnTable ss rs senders receivers begins steps × ((j : ℕ) → getD entries j noEntry .count ≤ 255) × (at ≡ length (verdictsTo ss rs q due entries p o)) × (out ≡ verdictsTo ss rs q due entries p o ++ drop at out₀)
 
 abbrev μ-loop : tie.MeasureT-loop
-μ-loop out₀ due ss rs counts q p n entries at₀ o₀ out at o = n - o
+μ-loop out₀ due ss rs counts senders receivers begins steps q p n entries at₀ o₀ out at o = n - o
 
 loop-holds : tie.Need-loop-holds Inv-loop μ-loop
-loop-holds c = (search needs, search needs, search needs, search needs, search needs, search needs, search needs, search needs, search written-none, search written-start)
+loop-holds c = (search needs, search needs, search needs, search needs, search needs, search needs, search needs, search needs, search needs, search written-none, search written-start)
 
 add-place : tie.Need-add-place Inv-loop μ-loop
 add-place c = search needs
@@ -39,7 +40,7 @@ add-put-due-2 : tie.Need-add-put-due-2 Inv-loop μ-loop
 add-put-due-2 c = search needs
 
 put-due-requires : tie.Need-put-due-requires Inv-loop μ-loop
-put-due-requires c κs = (search needs, search needs, search (c .before .before .before .before .loop .inv .7))
+put-due-requires c κs = ((search needs, search needs, search (c .before .before .before .before .loop .inv .8)), search needs)
 
 add-o : tie.Need-add-o Inv-loop μ-loop
 add-o c = search needs
@@ -52,7 +53,7 @@ loop-again c =
     let put = c .before .before .put-due .ensures in
     let marked = c .before .before .before .before .is-marked .ensures in
     let inv = c .before .before .before .before .before .before .before .loop .inv in
-    (search needs, search needs, search needs, search needs, search (written-kept, needs), search written-bound, search needs, search needs, written-at _ _ _ _ _ _ _ _ _ marked (inv .8) _ (put .0), written-turn _ _ _ _ _ _ _ _ _ marked (inv .8) _ _ _ (inv .9) (put .1) _ (put .0))
+    (search needs, search needs, search needs, search needs, search (written-kept, needs), search written-bound, search needs, search needs, search needs, written-at _ _ _ _ _ _ _ _ _ marked (inv .9) _ (put .0), written-turn _ _ _ _ _ _ _ _ _ marked (inv .9) _ _ _ (inv .10) (put .1) _ (put .0))
 
 same-length : tie.Need-same-length Inv-loop μ-loop
 same-length c = search needs

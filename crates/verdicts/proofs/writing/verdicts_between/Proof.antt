@@ -13,11 +13,11 @@ fill-counts-requires c κs = search needs
 array-share-prefix-places : tie.Need-array-share-prefix-places
 array-share-prefix-places c = search needs
 
-slice-aggregate-put-verdicts : tie.Need-slice-aggregate-put-verdicts
-slice-aggregate-put-verdicts c = search (counts-cut, needs)
+slice-aggregate-verdicts-in-turn : tie.Need-slice-aggregate-verdicts-in-turn
+slice-aggregate-verdicts-in-turn c = search (counts-cut, needs)
 
-put-verdicts-requires : tie.Need-put-verdicts-requires
-put-verdicts-requires c κs = (search needs, search counts-ready, search needs, search needs, search needs)
+verdicts-in-turn-requires : tie.Need-verdicts-in-turn-requires
+verdicts-in-turn-requires c κs = (search needs, search counts-ready, search needs, search needs, search needs)
 
 same-length : tie.Need-same-length
 same-length c = search needs
@@ -32,7 +32,7 @@ verdicts-between-spec =
     slice-aggregate-fill-counts
     fill-counts-requires
     array-share-prefix-places
-    slice-aggregate-put-verdicts
-    put-verdicts-requires
+    slice-aggregate-verdicts-in-turn
+    verdicts-in-turn-requires
     same-length
     returns)

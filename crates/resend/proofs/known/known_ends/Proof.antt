@@ -1,8 +1,8 @@
 -- The original sender is the owner of the message's slot in the counts at hand.
 use Rattle.resend.proofs.ResendLaws.{ready, ready-told}
 use borrow.Author.Needs.{needs}
-use Rattle.resend.proofs.known.known_resend.Statement.{statement}
-use Rattle.resend.proofs.known.known_resend.Tie as tie
+use Rattle.resend.proofs.known.known_ends.Statement.{statement}
+use Rattle.resend.proofs.known.known_ends.Tie as tie
 
 less-requires : tie.Need-less-requires
 less-requires c κs = search needs
@@ -19,14 +19,14 @@ slot-owner-requires c κs = search ready
 cast-first : tie.Need-cast-first
 cast-first c = search needs
 
-resend-at-requires : tie.Need-resend-at-requires
-resend-at-requires c κs = (search ready, search ready, search ready, search ready)
+ends-in-turn-requires : tie.Need-ends-in-turn-requires
+ends-in-turn-requires c κs = ((search ready, search ready, search ready, search ready, search ready), search ready)
 
 returns : tie.Need-returns
 returns c = search ready-told
 
-pub known-resend-spec : {M : Type 1} → statement M
-known-resend-spec =
+pub known-ends-spec : {M : Type 1} → statement M
+known-ends-spec =
     tie.close
     (tie.spec
     less-requires
@@ -34,5 +34,5 @@ known-resend-spec =
     cast-slot-owner
     slot-owner-requires
     cast-first
-    resend-at-requires
+    ends-in-turn-requires
     returns)

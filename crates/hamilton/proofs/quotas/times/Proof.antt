@@ -1,8 +1,8 @@
 -- A product of two 32-bit numbers fits 64 bits.
 use Rattle.hamilton.proofs.CountLaws.{product}
 use borrow.Author.Needs.{needs}
-use Rattle.hamilton.proofs.ranks.times.Statement.{statement}
-use Rattle.hamilton.proofs.ranks.times.Tie as tie
+use Rattle.hamilton.proofs.quotas.times.Statement.{statement}
+use Rattle.hamilton.proofs.quotas.times.Tie as tie
 
 mul-result : tie.Need-mul-result
 mul-result c = search product
