@@ -1,14 +1,11 @@
 -- What is handed back and stored is what the definition's answer has, field by field. Assumes nothing.
-use mathlib.Core.Path.{_≡_, ap, _∙_}
-use mathlib.Core.List.{List, [], _∷_}
-use Prim.Native.Nat.{ℕ}
+use mathlib.Core.Path.{_≡_, ap}
+use mathlib.Core.List.{[], _∷_}
 use Rattle.deal.specs.declared.pairs.PairAnswer.{PairAnswer}
 use Rattle.resend.specs.declared.pairs.ResendAnswer.{ResendAnswer}
 use Rattle.holdings.specs.declared.state.Holdings.{Holdings}
 use Rattle.holdings.specs.declared.state.ReportAnswer.{ReportAnswer}
 use Rattle.holdings.specs.declared.arrival.ArrivalAnswer.{ArrivalAnswer}
-use Rattle.window.specs.declared.opening.OpenAnswer.{OpenAnswer}
-use Rattle.words.specs.Put.{wordsOf}
 use Rattle.link.specs.Numbers.{pairNumbers, resendNumbers}
 use Rattle.link.specs.Holdings.{holdingsWords, reportNumbers}
 
@@ -25,13 +22,6 @@ module _ (a b : ResendAnswer) (e : a ≡ b) where
 
   pub resend-numbers : a .sender ∷ a .receiver ∷ a .run ∷ [] ≡ resendNumbers b
   resend-numbers = ap resendNumbers e
-
-module _ (a b : OpenAnswer) (e : a ≡ b) where
-  pub open-refusal : a .refusal ≡ b .refusal
-  open-refusal = ap (λ (x : OpenAnswer). x .refusal) e
-
-  pub open-words : (o : List ℕ) → o ≡ wordsOf (a .window) → o ≡ wordsOf (b .window)
-  open-words o p = p ∙ ap (λ (x : OpenAnswer). wordsOf (x .window)) e
 
 pub holdings-words : (a b : Holdings) → a ≡ b → a .number ∷ a .mask ∷ [] ≡ holdingsWords b
 holdings-words a b e = ap holdingsWords e

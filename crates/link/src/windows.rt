@@ -1,5 +1,4 @@
 // The sending window, its state kept in lent words.
-use window::Window;
 ghost use mathlib.Core.Path.{_≡_};
 ghost use mathlib.Core.List.{[], _∷_};
 ghost use lib.ListN.{length};
@@ -21,9 +20,16 @@ pub extern "C" fn havdorlek_open(
 ) -> u32
     ensures { λ n. ⌜ (n ≡ openOf (now (ss .entry)) su sr (now (rs .entry)) ru rr q .refusal) × (now (window .exit) ≡ wordsOf (openOf (now (ss .entry)) su sr (now (rs .entry)) ru rr q .window)) ⌝ }
 {
-    let a = Window::open(ss, su, sr, rs, ru, rr, q);
-    words::put_window(a.window, window);
-    a.refusal
+    let refusal = deal::pair_refusal(ss, su, sr, rs, ru, rr, q);
+    if refusal != 0 {
+        let none = window::no_cluster();
+        words::put_opened(none, none, 0, window);
+        return refusal;
+    }
+    let sending = window::cluster_from(ss, su, sr);
+    let receiving = window::cluster_from(rs, ru, rr);
+    words::put_opened(sending, receiving, q, window);
+    0
 }
 
 // Whether a well-formed state stands in the words: 0 or 17.

@@ -6,6 +6,8 @@ mod sending;
 mod state;
 
 pub use opening::OpenAnswer;
+pub use opening::cluster_from;
+pub use opening::no_cluster;
 pub use reporting::ReportAnswer;
 pub use sending::SendAnswer;
 pub use sending::next_refusal;

@@ -8,7 +8,7 @@ ghost use mathlib.Core.Path.{_≡_};
 ghost use mathlib.Core.List.{_++_};
 ghost use Prim.Native.Nat.{_-_, _≤_};
 ghost use lib.ListN.{length, replicate};
-ghost use Rattle.window.specs.Opening.{clusterFrom, windowFrom, noWindow, openOf};
+ghost use Rattle.window.specs.Opening.{clusterFrom, windowFrom, noCluster, noWindow, openOf};
 
 // The number of the refusal, 0 for none, and the state: of zeros where the opening is refused.
 pub struct OpenAnswer {
@@ -30,7 +30,9 @@ fn places(shares: &[u32]) -> [u32; 64]
     places
 }
 
-fn cluster_from(shares: &[u32], u: u32, r: u32) -> Cluster
+// A cluster as the state keeps it.
+// inner: for an accepted cluster, which has at most 64 members.
+pub fn cluster_from(shares: &[u32], u: u32, r: u32) -> Cluster
     requires { ⌜ length (now shares) ≤ 64 ⌝ }
     ensures { λ c. ⌜ c ≡ clusterFrom (now (shares .entry)) u r ⌝ }
 {
@@ -71,16 +73,23 @@ fn window_from(sending: Cluster, receiving: Cluster, quantum: u32) -> Window
     }
 }
 
-fn no_window() -> Window
-    ensures { λ w. ⌜ w ≡ noWindow ⌝ }
+// The clusters of a state of zeros.
+pub fn no_cluster() -> Cluster
+    ensures { λ c. ⌜ c ≡ noCluster ⌝ }
 {
     let shares = [0u32; 64];
-    let none = Cluster {
+    Cluster {
         members: 0,
         u: 0,
         r: 0,
         shares,
-    };
+    }
+}
+
+fn no_window() -> Window
+    ensures { λ w. ⌜ w ≡ noWindow ⌝ }
+{
+    let none = no_cluster();
     window_from(none, none, 0)
 }
 

@@ -1,20 +1,22 @@
 -- Parts that are put one behind the other fill what was lent. Assumes nothing.
 use mathlib.Core.Path.{_≡_, refl, ap, sym, _∙_}
 use mathlib.Core.List.{List, [], _∷_, _++_, append-nil}
-use Prim.Native.Nat.{ℕ, _+_, _≤_}
+use Prim.Native.Nat.{ℕ, _+_, _≤_, _<_}
 use native.Mathlib.Nat.{zero-add}
 use native.Mathlib.Omega.{arith}
-use lib.ListN.{length, drop, set, getD, drop-of-length-le, length-append}
+use lib.ListN.{length, drop, set, getD, replicate, drop-of-length-le, length-append}
 use lib.Seq.{sets, sets-eq}
 use borrow.Rule.Slice.PartMut.{putMid}
 use Rattle.basics.proofs.PartLaws.{put-next}
-use Rattle.basics.proofs.SumLaws.{length-list}
+use Rattle.basics.specs.Sums.{listBelow}
+use Rattle.basics.proofs.SumLaws.{length-list, list-turn}
 use Rattle.downstream.specs.declared.state.Cluster.{Cluster}
 use Rattle.downstream.specs.declared.state.Report.{Report}
 use Rattle.downstream.specs.declared.state.Entry.{Entry}
-use Rattle.downstream.specs.State.{noEntry, reportAt, numbersOf, masksOf}
+use Rattle.downstream.specs.State.{noReport, noEntry, reportAt, numbersOf, masksOf}
 use Rattle.window.specs.declared.state.Window.{Window}
-use Rattle.words.specs.Put.{sharesWords, clusterWords, heardOf, countsOf, complaintsOf, reportWords, entryWords, wordsOf}
+use Rattle.window.specs.Opening.{windowFrom}
+use Rattle.words.specs.Put.{zeros, sharesWords, clusterWords, heardOf, countsOf, complaintsOf, reportWords, entryWords, wordsOf}
 
 -- one part more behind those that are there
 more : (p ys s xs : List ℕ) (a k : ℕ) → xs ≡ p ++ drop a s → length p ≡ a → length ys ≡ k → putMid a k xs ys ≡ (p ++ ys) ++ drop (a + k) s
@@ -114,3 +116,27 @@ window-put w s a b c d e n ea eb ec ed ee =
     more (a ++ b ++ c ++ d) e s (putMid 137 192 (putMid 134 3 (putMid 67 67 (putMid 0 67 s a) b) c) d) 329 128 four labcd le
     ∙ full (a ++ b ++ c ++ d ++ e) s 457 n
     ∙ rw (ea, eb, ec, ed, ee)
+
+-- ---- zeros
+pub zeros-turn : (i : ℕ) {l : List ℕ} (o : List ℕ) → l ≡ listBelow i (λ _. 0) ++ drop i o → (n : ℕ) → i < n → length l ≡ n → length o ≡ n → set l i 0 ≡ listBelow (i + 1) (λ _. 0) ++ drop (i + 1) o
+zeros-turn i {l} o e n h a b = list-turn (λ _. 0) {i = i} {v = 0} {l = l} o e (omega arith) (a ∙ sym b) refl
+
+pub zeros-done : (i n : ℕ) (l o : List ℕ) → l ≡ listBelow i (λ _. 0) ++ drop i o → length o ≡ n → i ≤ n → n ≤ i → l ≡ zeros n
+unfolding zeros
+zeros-done i n l o e m a b =
+    let z : i ≡ n = omega arith in
+    e ∙ full (listBelow i (λ _. 0)) o i (m ∙ sym z) ∙ ap (λ (j : ℕ). listBelow j (λ _. 0)) z
+
+none-reported : zeros 192 ≡ reportWords (replicate 64 noReport)
+unfolding zeros reportWords numbersOf masksOf heardOf listBelow
+none-reported = refl
+
+none-open : zeros 128 ≡ entryWords (replicate 64 noEntry)
+unfolding zeros entryWords countsOf complaintsOf listBelow
+none-open = refl
+
+pub opened-put : (sending receiving : Cluster) (q : ℕ) (s a b c d e : List ℕ) → length s ≡ 457 → a ≡ clusterWords sending → b ≡ clusterWords receiving
+    → c ≡ q ∷ 0 ∷ 0 ∷ [] → d ≡ zeros 192 → e ≡ zeros 128
+    → putMid 329 128 (putMid 137 192 (putMid 134 3 (putMid 67 67 (putMid 0 67 s a) b) c) d) e ≡ wordsOf (windowFrom sending receiving q)
+opened-put sending receiving q s a b c d e n ea eb ec ed ee =
+    window-put (windowFrom sending receiving q) s a b c d e n ea eb ec (ed ∙ none-reported) (ee ∙ none-open)

@@ -42,3 +42,7 @@ wordsOf w =
     ++ (w .quantum ∷ w .sent ∷ w .downstream .point ∷ [])
     ++ reportWords (w .downstream .reports)
     ++ entryWords (w .downstream .entries)
+
+-- as many words that are zero
+unfoldable pub zeros : ℕ → List ℕ
+zeros n = listBelow n (λ _. 0)

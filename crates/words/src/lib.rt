@@ -1,9 +1,11 @@
 // The window's state as 457 words of 64 bits: what a unit writes to its disk and reads back after a power cut.
 mod judging;
+mod opening;
 mod putting;
 mod taking;
 
 pub use judging::formed;
+pub use opening::put_opened;
 pub use putting::put_sent;
 pub use putting::put_window;
 pub use taking::window_in;

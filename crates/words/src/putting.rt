@@ -12,7 +12,7 @@ ghost use Rattle.window.specs.Sending.{withSent};
 ghost use Rattle.words.specs.Taken.{fits, windowIn};
 ghost use Rattle.words.specs.Put.{sharesWords, clusterWords, heardOf, countsOf, complaintsOf, reportWords, entryWords, wordsOf};
 
-fn put_three(a: u64, b: u64, c: u64, out: &mut [u64])
+pub(crate) fn put_three(a: u64, b: u64, c: u64, out: &mut [u64])
     requires { ⌜ length (now out) ≡ 3 ⌝ }
     ensures { λ _. ⌜ now (out .exit) ≡ a ∷ b ∷ c ∷ [] ⌝ }
 {
@@ -33,7 +33,7 @@ fn put_shares(c: Cluster, out: &mut [u64])
     }
 }
 
-fn put_cluster(c: Cluster, out: &mut [u64])
+pub(crate) fn put_cluster(c: Cluster, out: &mut [u64])
     requires { ⌜ length (now out) ≡ 67 ⌝ }
     ensures { λ _. ⌜ now (out .exit) ≡ clusterWords c ⌝ }
 {
