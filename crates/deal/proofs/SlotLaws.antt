@@ -2,15 +2,18 @@
 use mathlib.Core.Path.{_≡_, refl, ap, sym, _∙_}
 use mathlib.Core.Bool.{Bool, true, false, cond}
 use mathlib.Core.List.{List, [], _∷_}
-use Prim.Native.Nat.{ℕ, zero, suc, _+_, _-_, _≤_, _<_, min}
+use Prim.Native.Nat.{ℕ, zero, suc, _+_, _-_, _*_, _/_, _≤_, _<_, min}
+use native.Mathlib.Nat.{zero-mul, mul-comm, mul-div-le, div-lt-iff-lt-mul}
 use native.Mathlib.Decide.{decLt}
 use native.Mathlib.Numerals.{add-one}
 use native.Mathlib.Omega.{arith}
+use mir.Syntax.{w32}
+use mir.Val.{Fits}
 use lib.Dec.{ltb}
 use lib.ListN.{length, getD}
 use borrow.Author.Tests.{lt-ltb, le-ltb}
 use Rattle.basics.specs.Sums.{sumBelow, howMany, joinBelow}
-use Rattle.basics.proofs.SumLaws.{sum-start, sum-cong, sum-zero, sum-add}
+use Rattle.basics.proofs.SumLaws.{sum-start, sum-cong, sum-zero, sum-add, sum-bound}
 use Rattle.deal.specs.Rounds.{roundOf, dealOf, slotsBefore, ownerOf}
 use Rattle.basics.proofs.HowManyLaws.{one}
 use Rattle.basics.proofs.JoinLaws.{length-join, length-join-suc, join-at, join-past, join-below}
@@ -105,12 +108,26 @@ unfolding ownerOf dealOf
 owner-below c q slot p = join-below (roundOf c) (length c) p q (λ i s l. round-below c i s p) slot
 
 -- ---- the search for a slot's round
-pub some-round : (c : List ℕ) (q slot : ℕ) → slot < slotsBefore c q → 0 < q
-some-round c zero slot l = absurd (omega (arith, slots-none c))
-some-round c (suc q) slot l = omega arith
+-- each round has at most a slot for each member
+slots-most : (c : List ℕ) (t : ℕ) → slotsBefore c t ≤ length c * t
+unfolding slotsBefore
+slots-most c t = sum-bound (λ i. min (getD c i 0) t) t (length c) (λ j l. omega arith)
 
-pub first-round : (c : List ℕ) (slot : ℕ) → slotsBefore c 0 ≤ slot
-first-round c slot = omega (arith, slots-none c)
+module _ (c : List ℕ) (q slot : ℕ) (h : slot < slotsBefore c q) where
+  pub some-member : 0 < length c
+  some-member = elim (decLt 0 (length c)) [
+    | yes l ↦ l
+    | no l ↦ (let z : length c ≡ 0 = omega arith in absurd (omega (arith, slots-most c q, ap (λ (n : ℕ). n * q) z, zero-mul q)))
+  ]
+
+  pub earliest-below : slot / length c < q
+  earliest-below = (div-lt-iff-lt-mul some-member) .1 (omega (arith, slots-most c q, mul-comm (length c) q))
+
+  pub earliest-fits : Fits w32 q → Fits w32 (slot / length c)
+  earliest-fits f = record { fits = omega (arith, earliest-below, f .fits) }
+
+  pub earliest-reached : slotsBefore c (slot / length c) ≤ slot
+  earliest-reached = omega (arith, slots-most c (slot / length c), mul-div-le slot (length c))
 
 pub round-found : (c : List ℕ) (lo hi slot : ℕ) → lo < hi → hi - lo ≤ 1 → slot < slotsBefore c hi → slot < slotsBefore c (lo + 1)
 round-found c lo hi slot a b l = let z : hi ≡ lo + 1 = omega arith in rw z at l

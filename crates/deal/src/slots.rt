@@ -27,12 +27,23 @@ fn slots_before(counts: &[u32], t: u32) -> u64
     sum
 }
 
-// The round that a slot is in.
+// The earliest round that a slot can be in: no round has more slots than there are members.
+fn earliest_round(counts: &[u32], q: u32, slot: u64) -> u32
+    requires { ⌜ slot < slotsBefore (now counts) q ⌝ }
+    ensures { λ t. ⌜ (t < q) × (slotsBefore (now (counts .entry)) t ≤ slot) ⌝ }
+{
+    (slot / counts.len() as u64) as u32
+}
+
+// The round that a slot is in. Where shares differ little it is the earliest that it can be in.
 fn round_with(counts: &[u32], q: u32, slot: u64) -> u32
     requires { ⌜ (length (now counts) ≤ 64) × (slot < slotsBefore (now counts) q) ⌝ }
     ensures { λ t. ⌜ (t < q) × (slotsBefore (now (counts .entry)) t ≤ slot) × (slot < slotsBefore (now (counts .entry)) (t + 1)) ⌝ }
 {
-    let mut lo: u32 = 0;
+    let mut lo = earliest_round(counts, q, slot);
+    if slot < slots_before(counts, lo + 1) {
+        return lo;
+    }
     let mut hi = q;
     while 1 < hi - lo {
         let mid = lo + (hi - lo) / 2;
