@@ -3,6 +3,8 @@ mod complaints;
 mod due;
 mod reports;
 
+pub use complaints::Hearing;
+pub use complaints::complaints_after;
 pub use complaints::taken;
 pub use due::due_set;
 pub use due::judged;

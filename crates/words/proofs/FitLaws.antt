@@ -11,7 +11,7 @@ use Rattle.basics.proofs.SumLaws.{all-at}
 use Rattle.basics.proofs.BoolLaws.{and-left, and-right}
 use Rattle.words.specs.Taken.{wordAt, noneAbove, fits}
 
-none-at : (ws : List ℕ) (from n most : ℕ) → noneAbove ws from n most ≡ true → (i : ℕ) → i < n → wordAt ws (from + i) ≤ most
+pub none-at : (ws : List ℕ) (from n most : ℕ) → noneAbove ws from n most ≡ true → (i : ℕ) → i < n → wordAt ws (from + i) ≤ most
 unfolding noneAbove
 none-at ws from n most h i l = leb-true _ _ (all-at (λ (j : ℕ). leb (wordAt ws (from + j)) most) n h i l)
 

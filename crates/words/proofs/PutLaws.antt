@@ -44,19 +44,19 @@ cluster-put c s y z l d e =
     let lz : length z ≡ 64 = ap length e ∙ length-shares c in
     more y z s (putMid 0 3 s y) 3 64 (put-next [] y s 0 3 refl ly) ly lz ∙ full (y ++ z) s 67 l ∙ rw (d, e)
 
-length-cluster : (c : Cluster) → length (clusterWords c) ≡ 67
+pub length-cluster : (c : Cluster) → length (clusterWords c) ≡ 67
 unfolding clusterWords
 length-cluster c = length-append (c .members ∷ c .u ∷ c .r ∷ []) (sharesWords c) ∙ omega (arith, length-shares c)
 
-length-numbers : (l : List Report) → length (numbersOf l) ≡ 64
+pub length-numbers : (l : List Report) → length (numbersOf l) ≡ 64
 unfolding numbersOf
 length-numbers l = length-list (λ i. reportAt l i .number) 64
 
-length-masks : (l : List Report) → length (masksOf l) ≡ 64
+pub length-masks : (l : List Report) → length (masksOf l) ≡ 64
 unfolding masksOf
 length-masks l = length-list (λ i. reportAt l i .mask) 64
 
-length-heard : (l : List Report) → length (heardOf l) ≡ 64
+pub length-heard : (l : List Report) → length (heardOf l) ≡ 64
 unfolding heardOf
 length-heard l = length-list _ 64
 
@@ -79,7 +79,7 @@ entries-put l s a b n e f =
     let lb : length b ≡ 64 = ap length f ∙ length-complaints l in
     more a b s (putMid 0 64 s a) 64 64 (put-next [] a s 0 64 refl la) la lb ∙ full (a ++ b) s 128 n ∙ rw (e, f)
 
-length-reports : (l : List Report) → length (reportWords l) ≡ 192
+pub length-reports : (l : List Report) → length (reportWords l) ≡ 192
 unfolding reportWords
 length-reports l =
     length-append (numbersOf l ++ masksOf l) (heardOf l)

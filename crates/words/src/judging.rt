@@ -13,7 +13,8 @@ ghost use Rattle.downstream.specs.Formed.{reportKept, reportsKept, entryKept, e
 ghost use Rattle.words.specs.Taken.{fits, columnAt, reportIn, entryIn, reportsIn, entriesIn, windowIn, formedIn};
 
 // The 64 words from a place on.
-fn column_at(words: &[u64; 457], at: usize) -> [u64; 64]
+// inner: for places among the 457.
+pub fn column_at(words: &[u64; 457], at: usize) -> [u64; 64]
     requires { ⌜ at + 64 ≤ 457 ⌝ }
     ensures { λ r. ⌜ r ≡ columnAt (now (words .entry)) at ⌝ }
 {

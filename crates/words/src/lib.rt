@@ -4,8 +4,12 @@ mod opening;
 mod putting;
 mod taking;
 
+pub use judging::column_at;
 pub use judging::formed;
 pub use opening::put_opened;
 pub use putting::put_sent;
 pub use putting::put_window;
+pub use taking::cluster_at;
+pub use taking::none_above;
+pub use taking::quantum_in;
 pub use taking::window_in;

@@ -10,7 +10,8 @@ ghost use Prim.Native.Nat.{_+_, _≤_};
 ghost use Rattle.words.specs.Taken.{wordAt, noneAbove, fits, columnAt, clusterAt, reportsIn, entriesIn, windowIn};
 
 // Whether n words from a place on are at most so large.
-fn none_above(words: &[u64; 457], from: usize, n: usize, most: u64) -> bool
+// inner: for places among the 457.
+pub fn none_above(words: &[u64; 457], from: usize, n: usize, most: u64) -> bool
     requires { ⌜ from + n ≤ 457 ⌝ }
     ensures { λ r. ⌜ r ≡ noneAbove (now (words .entry)) from n most ⌝ }
 {
@@ -48,7 +49,9 @@ fn shares_at(words: &[u64; 457], at: usize) -> [u32; 64]
     shares
 }
 
-pub(crate) fn cluster_at(words: &[u64; 457], at: usize) -> Cluster
+// A cluster from a place on.
+// inner: for a caller that has asked whether the words fit.
+pub fn cluster_at(words: &[u64; 457], at: usize) -> Cluster
     requires { ⌜ (at + 67 ≤ 135) × (fits (now words) ≡ true) ⌝ }
     ensures { λ r. ⌜ r ≡ clusterAt (now (words .entry)) at ⌝ }
 {
@@ -104,7 +107,9 @@ fn entries_in(words: &[u64; 457]) -> [Entry; 64]
     entries
 }
 
-pub(crate) fn quantum_in(words: &[u64; 457]) -> u32
+// The quantum.
+// inner: for a caller that has asked whether the words fit.
+pub fn quantum_in(words: &[u64; 457]) -> u32
     requires { ⌜ fits (now words) ≡ true ⌝ }
     ensures { λ r. ⌜ r ≡ wordAt (now (words .entry)) 134 ⌝ }
 {

@@ -1,0 +1,222 @@
+-- An accepted report in the words: what is known where it is taken, and that its columns are the state's. Assumes nothing.
+use mathlib.Core.Path.{_≡_, refl, ap, sym, _∙_}
+use mathlib.Core.Bool.{Bool, true, false, cond, _&&_}
+use mathlib.Core.List.{List, _++_, append-assoc}
+use Prim.Native.Nat.{ℕ, _+_, _-_, _≤_, _<_}
+use lib.ListN.{length, getD, List·getD-eq-default}
+use native.Mathlib.Decide.{decLt}
+use native.Mathlib.Omega.{arith}
+use lib.Dec.{ltb}
+use lib.ListN.{length, getD, set, take, length-append}
+use lib.Seq.{take-at}
+use borrow.Author.Tests.{le-ltb}
+use Rattle.basics.proofs.SumLaws.{length-list}
+use Rattle.marks.specs.Masks.{isMarked}
+use Rattle.marks.proofs.MaskLaws.{marked-none}
+use Rattle.marks.proofs.SetLaws.{marked-set}
+use Rattle.downstream.specs.declared.state.Entry.{Entry}
+use Rattle.downstream.specs.declared.state.Report.{Report}
+use Rattle.downstream.specs.declared.state.Downstream.{Downstream}
+use Rattle.downstream.specs.State.{noEntry, offsetAt, reportAt, numbersOf, masksOf, pointFrom}
+use Rattle.downstream.proofs.FormedLaws.{kept-span, kept-cluster, cluster-few, span-limit, span-order}
+use Rattle.judging.specs.declared.complaints.Hearing.{Hearing}
+use Rattle.judging.specs.Reports.{Accepting}
+use Rattle.judging.specs.Complaints.{entriesAfter, complainedEntry, isAgain, reportsAfter, pointAfter, takenOf, Taking}
+use Rattle.judging.specs.Verdicts.{dueAt, dueOf, raisedEntry, judgedOf, Judging}
+use Rattle.judging.proofs.Accepted.{may-take}
+use Rattle.judging.proofs.Kept.{may-judge}
+use Rattle.judging.proofs.PlaceLaws.{entries-length, entries-place}
+use Rattle.window.specs.declared.state.Window.{Window}
+use Rattle.window.specs.Reporting.{Reportable}
+use Rattle.window.specs.Answers.{withDownstream, stepOf}
+use Rattle.words.specs.Taken.{wordAt, columnAt, clusterAt, reportsIn, entriesIn, windowIn}
+use Rattle.words.specs.Put.{clusterWords, reportWords, entryWords, countsOf, complaintsOf, wordsOf}
+use Rattle.words.proofs.JudgeLaws.{numbers-column, masks-column}
+use Rattle.words.proofs.PutLaws.{length-reports}
+use Rattle.steps.specs.Columns.{countsAfter, heardAfter, small, raisedCounts, emptiedSets}
+use Rattle.steps.specs.Stored.{withReport}
+use Rattle.steps.specs.Stepping.{Stepping}
+use Rattle.steps.proofs.RefusalLaws.{former-in}
+use Rattle.steps.proofs.StoreLaws.{front, length-front, places-in, numbers-set, masks-set}
+use Rattle.steps.proofs.EntryLaws.{heard-counts, heard-sets, judged-counts, judged-sets, judged-same, count-in}
+
+-- ---- the words of a state with other entries
+abbrev withEntries : Window → List Entry → Window
+withEntries w l =
+    record {
+      sending = w .sending;
+      quantum = w .quantum;
+      sent = w .sent;
+      downstream = record { cluster = w .downstream .cluster; point = w .downstream .point; reports = w .downstream .reports; entries = l };
+    }
+
+entries-behind : (w : Window) (l : List Entry) → take 329 (wordsOf w) ++ countsOf l ++ complaintsOf l ≡ wordsOf (withEntries w l)
+unfolding wordsOf entryWords
+entries-behind w l =
+    let before : length (front w ++ reportWords (w .downstream .reports)) ≡ 329 = length-append (front w) (reportWords (w .downstream .reports)) ∙ omega (arith, length-front w, length-reports (w .downstream .reports)) in
+    ap (λ (x : List ℕ). x ++ countsOf l ++ complaintsOf l) (take-at (front w ++ reportWords (w .downstream .reports)) (entryWords (w .downstream .entries)) 329 before)
+    ∙ append-assoc (front w ++ reportWords (w .downstream .reports)) (countsOf l) (complaintsOf l)
+
+-- ---- an accepted report
+module _ (ws : List ℕ) (i c mask room : ℕ) (a : Reportable (windowIn ws) i c mask room) where
+  abbrev w : Window
+  w = windowIn ws
+
+  abbrev d : Downstream
+  d = windowIn ws .downstream
+
+  taking : Taking d (w .sent) i c mask
+  taking = may-take d (w .sent) i c mask (a .accepting) (places-in ws)
+
+  pub ready-member : i < 64
+  ready-member = taking .member
+
+  pub ready-number : c ≤ 1000000000000
+  ready-number = taking .low
+
+  pub ready-few : wordAt ws 67 ≤ 64
+  unfolding windowIn clusterAt
+  ready-few = taking .few
+
+  pub ready-point : wordAt ws 136 ≤ 1000000000000
+  unfolding windowIn
+  ready-point = let k = kept-span d (w .sent) (a .accepting .kept) in omega (arith, span-limit (d .point) (w .sent) k, span-order (d .point) (w .sent) k)
+
+  -- the point that the numbers in the words give
+  pub point-is : (p : ℕ) → p ≡ pointFrom (clusterAt ws 67) (set (columnAt ws 137) i c) → p ≡ pointAfter d i c mask
+  unfolding windowIn
+  point-is p e = e ∙ ap (pointFrom (clusterAt ws 67)) (ap (λ (l : List ℕ). set l i c) (numbers-column ws) ∙ numbers-set (reportsIn ws) i c mask (places-in ws) ready-member)
+
+-- ---- where it is taken
+module _ (ws : List ℕ) (h : Hearing) (p room : ℕ) (k : Stepping ws h p room) where
+  abbrev before : Downstream
+  before = windowIn ws .downstream
+
+  abbrev sent : ℕ
+  sent = windowIn ws .sent
+
+  abbrev taken : Downstream
+  taken = takenOf before sent (h .member) (h .number) (h .mask)
+
+  may : Taking before sent (h .member) (h .number) (h .mask)
+  may = may-take before sent (h .member) (h .number) (h .mask) (k .ready .accepting) (places-in ws)
+
+  pub step-member : h .member < 64
+  step-member = may .member
+
+  pub step-number : h .number ≤ 1000000000000
+  step-number = may .low
+
+  pub step-fit : Stepping ws h p room
+  step-fit = k
+
+  pub step-low : p ≤ 1000000000000
+  step-low = omega (arith, k .point, may .order, may .limit)
+
+  pub step-order : p ≤ wordAt ws 135
+  unfolding windowIn
+  step-order = omega (arith, k .point, may .order)
+
+  pub step-near : wordAt ws 135 - p ≤ 64
+  unfolding windowIn
+  step-near = omega (arith, k .point, may .near)
+
+  pub step-judging : Judging taken sent
+  step-judging = may-judge before sent (h .member) (h .number) (h .mask) (k .ready .accepting) (places-in ws)
+
+  -- ---- the columns are those of the state in which the report is taken
+  again-is : isAgain (reportAt (before .reports) (h .member)) (h .number) ≡ h .again
+  again-is = ap (λ (r : Report). isAgain r (h .number)) (former-in ws (h .member) step-member) ∙ sym (k .again)
+
+  abbrev heard : List Entry
+  heard = entriesAfter (complainedEntry (h .member) (h .number) (h .mask) (h .again) p) p (wordAt ws 135 - p) (entriesIn ws)
+
+  entries-are : taken .entries ≡ heard
+  unfolding takenOf windowIn
+  entries-are = rw (again-is, ← k .point) refl
+
+  point-same : taken .point ≡ p
+  unfolding takenOf
+  point-same = sym (k .point)
+
+  pub step-counts : (counts : List ℕ) → counts ≡ countsAfter ws p (wordAt ws 135 - p) → counts ≡ countsOf (taken .entries)
+  step-counts counts e = e ∙ heard-counts ws (h .member) (h .number) (h .mask) (h .again) p (wordAt ws 135 - p) ∙ ap countsOf (sym entries-are)
+
+  pub step-sets : (sets : List ℕ) → sets ≡ heardAfter ws (h .member) (h .number) (h .mask) (h .again) p (wordAt ws 135 - p) → sets ≡ complaintsOf (taken .entries)
+  step-sets sets e = e ∙ heard-sets ws (h .member) (h .number) (h .mask) (h .again) p (wordAt ws 135 - p) ∙ ap complaintsOf (sym entries-are)
+
+  pub step-numbers : (numbers : List ℕ) → numbers ≡ columnAt ws 137 → set numbers (h .member) (h .number) ≡ numbersOf (taken .reports)
+  unfolding takenOf windowIn
+  step-numbers numbers e = ap (λ (l : List ℕ). set l (h .member) (h .number)) (e ∙ numbers-column ws) ∙ numbers-set (reportsIn ws) (h .member) (h .number) (h .mask) (places-in ws) step-member
+
+  pub step-masks : (masks : List ℕ) → masks ≡ columnAt ws 201 → set masks (h .member) (h .mask) ≡ masksOf (taken .reports)
+  unfolding takenOf windowIn
+  step-masks masks e = ap (λ (l : List ℕ). set l (h .member) (h .mask)) (e ∙ masks-column ws) ∙ masks-set (reportsIn ws) (h .member) (h .number) (h .mask) (places-in ws) step-member
+
+  pub step-small : (counts : List ℕ) → counts ≡ countsAfter ws p (wordAt ws 135 - p) → small counts
+  unfolding countsOf
+  step-small counts e j = rw (step-counts counts e) (elim (decLt j 64) [
+    | yes l ↦ rw (count-in (taken .entries) j l) (step-judging .counts j)
+    | no l ↦ rw (List·getD-eq-default (countsOf (taken .entries)) 0 {n = j} (omega (arith, length-list (λ x. getD (taken .entries) x noEntry .count) 64))) (omega arith)
+  ])
+
+  -- ---- the verdicts
+  past : (o : ℕ) → wordAt ws 135 - p ≤ o → isMarked (dueOf taken sent) o ≡ false
+  unfolding dueOf windowIn
+  past o l = marked-set (dueAt taken) (sent - taken .point) o ∙ simp (le-ltb o (sent - taken .point) (omega (arith, point-same)))
+
+  closed : (j : ℕ) → j < 64 → wordAt ws 135 - p ≤ offsetAt p j → getD (taken .entries) j noEntry ≡ noEntry
+  closed j l m =
+      ap (λ (x : List Entry). getD x j noEntry) entries-are
+      ∙ entries-place (complainedEntry (h .member) (h .number) (h .mask) (h .again) p) p (entriesIn ws) (wordAt ws 135 - p) j l
+      ∙ simp (le-ltb (offsetAt p j) (wordAt ws 135 - p) m)
+
+  abbrev after : Downstream
+  after = stepOf before sent (h .member) (h .number) (h .mask) .downstream
+
+  abbrev judgedEntries : ℕ → List Entry
+  judgedEntries due = entriesAfter (λ o e. cond (isMarked due o) (raisedEntry e) e) p (wordAt ws 135 - p) (taken .entries)
+
+  after-entries : after .entries ≡ judgedEntries (dueOf taken sent)
+  unfolding stepOf judgedOf windowIn
+  after-entries = rw point-same refl
+
+  stepped : withEntries (withReport (windowIn ws) (h .member) (h .number) (h .mask) p) (after .entries) ≡ withDownstream (windowIn ws) after
+  unfolding stepOf judgedOf takenOf
+  stepped = rw (← k .point) refl
+
+  pub step-words : (counts sets l : List ℕ) → counts ≡ countsOf (after .entries) → sets ≡ complaintsOf (after .entries)
+      → l ≡ take 329 (wordsOf (withReport (windowIn ws) (h .member) (h .number) (h .mask) p)) ++ counts ++ sets → l ≡ wordsOf (withDownstream (windowIn ws) after)
+  step-words counts sets l ec es e =
+      e ∙ rw (ec, es) (entries-behind (withReport (windowIn ws) (h .member) (h .number) (h .mask) p) (after .entries)) ∙ ap wordsOf stepped
+
+  module _ (due : ℕ) (ed : due ≡ dueOf taken sent) where
+    entries-due : after .entries ≡ judgedEntries due
+    entries-due = after-entries ∙ ap judgedEntries (sym ed)
+
+    past-due : (o : ℕ) → wordAt ws 135 - p ≤ o → isMarked due o ≡ false
+    past-due o l = ap (λ (x : ℕ). isMarked x o) ed ∙ past o l
+
+    pub step-raised : (counts raised : List ℕ) → counts ≡ countsAfter ws p (wordAt ws 135 - p) → raised ≡ raisedCounts due p counts → raised ≡ countsOf (after .entries)
+    step-raised counts raised ec e =
+        e ∙ ap (raisedCounts due p) (step-counts counts ec) ∙ judged-counts due p (wordAt ws 135 - p) (taken .entries) past-due closed ∙ ap countsOf (sym entries-due)
+
+    pub step-emptied : (sets emptied : List ℕ) → sets ≡ heardAfter ws (h .member) (h .number) (h .mask) (h .again) p (wordAt ws 135 - p) → emptied ≡ emptiedSets due p sets
+        → emptied ≡ complaintsOf (after .entries)
+    step-emptied sets emptied es e =
+        e ∙ ap (emptiedSets due p) (step-sets sets es) ∙ judged-sets due p (wordAt ws 135 - p) (taken .entries) past-due closed ∙ ap complaintsOf (sym entries-due)
+
+    -- where nothing is due the entries stay as the report left them
+    module _ (z : due ≡ 0) where
+      pub entries-stay : after .entries ≡ taken .entries
+      unfolding takenOf
+      entries-stay =
+          entries-due
+          ∙ judged-same due p (wordAt ws 135 - p) (taken .entries) past-due closed (λ o. ap (λ (x : ℕ). isMarked x o) z ∙ marked-none o)
+          (ap length entries-are ∙ entries-length (complainedEntry (h .member) (h .number) (h .mask) (h .again) p) p (entriesIn ws) (wordAt ws 135 - p))
+
+      pub step-counts-stay : (counts : List ℕ) → counts ≡ countsAfter ws p (wordAt ws 135 - p) → counts ≡ countsOf (after .entries)
+      step-counts-stay counts e = step-counts counts e ∙ ap countsOf (sym entries-stay)
+
+      pub step-sets-stay : (sets : List ℕ) → sets ≡ heardAfter ws (h .member) (h .number) (h .mask) (h .again) p (wordAt ws 135 - p) → sets ≡ complaintsOf (after .entries)
+      step-sets-stay sets e = step-sets sets e ∙ ap complaintsOf (sym entries-stay)

@@ -1,0 +1,52 @@
+// What a report says, and the point and the columns that it gives.
+use judging::Hearing;
+ghost use mathlib.Core.Path.{_≡_};
+ghost use mathlib.Core.Bool.{true, not, _&&_};
+ghost use Prim.Native.Nat.{_≤_, _<_};
+ghost use lib.Dec.{eqb};
+ghost use lib.ListN.{set};
+ghost use Rattle.marks.specs.Held.{highestOf};
+ghost use Rattle.downstream.specs.State.{pointFrom};
+ghost use Rattle.judging.specs.Complaints.{isAgain};
+ghost use Rattle.words.specs.Taken.{wordAt, noneAbove, fits, columnAt, clusterAt, reportIn};
+
+// What the report of member i says.
+pub(crate) fn hearing_of(words: &[u64; 457], i: u32, c: u64, mask: u64) -> Hearing
+    requires { ⌜ (i < 64) × (c ≤ 1000000000000) ⌝ }
+    ensures { λ h. ⌜ h ≡ record { member = i; number = c; mask = mask; highest = highestOf c mask; again = isAgain (reportIn (now (words .entry)) i) c } ⌝ }
+{
+    let at = i as usize;
+    let again = (words[265 + at] == 1) & (words[137 + at] == c);
+    let highest = marks::highest(c, mask);
+    Hearing {
+        member: i,
+        number: c,
+        mask,
+        highest,
+        again,
+    }
+}
+
+// The point that the members' numbers give with that of member i. Mostly it stays, and whether it does is asked first.
+pub(crate) fn point_after(words: &[u64; 457], i: u32, c: u64) -> u64
+    requires { ⌜ (i < 64) × (fits (now words) ≡ true) × (wordAt (now words) 67 ≤ 64) × (wordAt (now words) 136 ≤ 1000000000000) ⌝ }
+    ensures { λ r. ⌜ r ≡ pointFrom (clusterAt (now (words .entry)) 67) (set (columnAt (now (words .entry)) 137) i c) ⌝ }
+{
+    let at = i as usize;
+    let cluster = words::cluster_at(words, 67);
+    let mut numbers = words::column_at(words, 137);
+    numbers[at] = c;
+    let p = words[136];
+    if downstream::point_kept(cluster, &numbers, p) {
+        return p;
+    }
+    downstream::point_from(cluster, numbers)
+}
+
+// Whether the report changes no entry: nothing is collected, the member complains of nothing, and nobody else does.
+pub(crate) fn is_quiet(words: &[u64; 457], h: Hearing, p: u64) -> bool
+    ensures { λ r. ⌜ r ≡ (eqb p (wordAt (now (words .entry)) 136) && eqb (h .mask) 0 && not (h .again && eqb (h .number) p) && noneAbove (now (words .entry)) 393 64 0) ⌝ }
+{
+    let silent = words::none_above(words, 393, 64, 0);
+    (p == words[136]) & (h.mask == 0) & !(h.again & (h.number == p)) & silent
+}
