@@ -1,4 +1,4 @@
--- Columns of the reports, and the members that lack a message. Assumes nothing.
+-- Columns of the reports and of the entries, and the members that lack a message. Assumes nothing.
 use mathlib.Core.Path.{_≡_, ap, sym, _∙_}
 use mathlib.Core.Bool.{Bool, true, false, cond, not, _&&_, _||_}
 use mathlib.Core.Logic.{inl, inr}
@@ -11,13 +11,14 @@ use lib.Dec.{ltb}
 use lib.ListN.{length, getD, drop, set, replicate, drop-of-length-le, length-replicate, length-map}
 use Rattle.basics.specs.Sums.{listBelow}
 use Rattle.basics.proofs.BoolLaws.{bool-cases, ltb-same}
-use Rattle.basics.proofs.SumLaws.{all-cong, list-at, list-turn}
+use Rattle.basics.proofs.SumLaws.{all-cong, length-list, list-at, list-turn}
 use Rattle.marks.specs.Masks.{isMarked, markOf, isSubset, reachOf}
 use Rattle.marks.proofs.RunLaws.{reach-above}
 use Rattle.marks.specs.Held.{holdsOf}
 use Rattle.marks.proofs.SetLaws.{marked-set}
 use Rattle.downstream.specs.declared.state.Report.{Report}
-use Rattle.downstream.specs.State.{reportAt, numbersOf, masksOf, heldBy, lackingOf}
+use Rattle.downstream.specs.declared.state.Entry.{Entry}
+use Rattle.downstream.specs.State.{noEntry, reportAt, numbersOf, masksOf, countsOf, complaintsOf, heldBy, lackingOf}
 use Rattle.downstream.specs.Formed.{complaintsKept}
 
 -- what owning an array tells of its list: it has so many places
@@ -31,6 +32,18 @@ number-at reports i l = list-at (λ j. reportAt reports j .number) 0 64 i l
 pub mask-at : (reports : List Report) (i : ℕ) → i < 64 → getD (masksOf reports) i 0 ≡ reportAt reports i .mask
 unfolding masksOf
 mask-at reports i l = list-at (λ j. reportAt reports j .mask) 0 64 i l
+
+pub length-resent : (entries : List Entry) → length (countsOf entries) ≡ 64
+unfolding countsOf
+length-resent entries = length-list (λ j. getD entries j noEntry .count) 64
+
+pub count-at : (entries : List Entry) (i : ℕ) → i < 64 → getD (countsOf entries) i 0 ≡ getD entries i noEntry .count
+unfolding countsOf
+count-at entries i l = list-at (λ j. getD entries j noEntry .count) 0 64 i l
+
+pub complaint-at : (entries : List Entry) (i : ℕ) → i < 64 → getD (complaintsOf entries) i 0 ≡ getD entries i noEntry .complaints
+unfolding complaintsOf
+complaint-at entries i l = list-at (λ j. getD entries j noEntry .complaints) 0 64 i l
 
 -- a column is filled from the front
 pub column-turn : (f : ℕ → ℕ) (i : ℕ) {v : ℕ} {l : List ℕ} → l ≡ listBelow i f ++ drop i (replicate 64 0) → i < 64 → length l ≡ 64 → v ≡ f i

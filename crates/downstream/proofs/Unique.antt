@@ -6,8 +6,9 @@ use Prim.Native.Nat.{ℕ}
 use Rattle.basics.proofs.Unique.{one-answer}
 use Rattle.downstream.specs.declared.state.Cluster.{Cluster}
 use Rattle.downstream.specs.declared.state.Report.{Report}
+use Rattle.downstream.specs.declared.state.Entry.{Entry}
 use Rattle.downstream.specs.declared.state.Downstream.{Downstream}
-use Rattle.downstream.specs.State.{numbersOf, masksOf}
+use Rattle.downstream.specs.State.{numbersOf, masksOf, countsOf, complaintsOf}
 use Rattle.downstream.specs.Formed.{clusterKept, spanKept, reportKept, downstreamKept}
 
 pub one-numbers : (reports : List Report) (a b : List ℕ) → a ≡ numbersOf reports → b ≡ numbersOf reports → a ≡ b
@@ -15,6 +16,12 @@ one-numbers reports a b e f = one-answer e f
 
 pub one-masks : (reports : List Report) (a b : List ℕ) → a ≡ masksOf reports → b ≡ masksOf reports → a ≡ b
 one-masks reports a b e f = one-answer e f
+
+pub one-counts : (entries : List Entry) (a b : List ℕ) → a ≡ countsOf entries → b ≡ countsOf entries → a ≡ b
+one-counts entries a b e f = one-answer e f
+
+pub one-complaints : (entries : List Entry) (a b : List ℕ) → a ≡ complaintsOf entries → b ≡ complaintsOf entries → a ≡ b
+one-complaints entries a b e f = one-answer e f
 
 pub one-cluster-kept : (c : Cluster) (a b : Bool) → a ≡ clusterKept c → b ≡ clusterKept c → a ≡ b
 one-cluster-kept c a b e f = one-answer e f

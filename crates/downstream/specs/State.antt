@@ -43,6 +43,13 @@ numbersOf reports = listBelow 64 (λ i. reportAt reports i .number)
 unfoldable pub masksOf : List Report → List ℕ
 masksOf reports = listBelow 64 (λ i. reportAt reports i .mask)
 
+-- the entries' resend counts, and their complaint sets
+unfoldable pub countsOf : List Entry → List ℕ
+countsOf entries = listBelow 64 (λ i. getD entries i noEntry .count)
+
+unfoldable pub complaintsOf : List Entry → List ℕ
+complaintsOf entries = listBelow 64 (λ i. getD entries i noEntry .complaints)
+
 -- member i holds message k
 abbrev pub heldBy : List ℕ → List ℕ → ℕ → ℕ → Bool
 heldBy numbers masks k i = holdsOf (getD numbers i 0) (getD masks i 0) k

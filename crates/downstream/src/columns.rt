@@ -1,11 +1,12 @@
-// The columns of the reports that the work needs, copied once and then lent.
+// The columns of the reports and of the entries that the work needs, copied once and then lent.
+use crate::state::Entry;
 use crate::state::Report;
 ghost use mathlib.Core.Path.{_≡_};
 ghost use mathlib.Core.Bool.{cond, not};
 ghost use Prim.Native.Nat.{_≤_};
 ghost use Rattle.marks.specs.Masks.{markOf};
 ghost use Rattle.marks.specs.Held.{holdsOf};
-ghost use Rattle.downstream.specs.State.{numbersOf, masksOf, lackingOf};
+ghost use Rattle.downstream.specs.State.{numbersOf, masksOf, countsOf, complaintsOf, lackingOf};
 
 // The members' cumulative numbers.
 pub fn numbers_of(reports: [Report; 64]) -> [u64; 64]
@@ -31,6 +32,33 @@ pub fn masks_of(reports: [Report; 64]) -> [u64; 64]
         i += 1;
     }
     masks
+}
+
+// How often each message was sent again, by its place.
+pub fn counts_of(entries: [Entry; 64]) -> [u64; 64]
+    ensures { λ r. ⌜ r ≡ countsOf entries ⌝ }
+{
+    let mut counts = [0u64; 64];
+    let mut i: usize = 0;
+    while i < 64 {
+        let entry = entries[i];
+        counts[i] = entry.count as u64;
+        i += 1;
+    }
+    counts
+}
+
+// Who complains of each message, by its place.
+pub fn complaints_of(entries: [Entry; 64]) -> [u64; 64]
+    ensures { λ r. ⌜ r ≡ complaintsOf entries ⌝ }
+{
+    let mut complaints = [0u64; 64];
+    let mut i: usize = 0;
+    while i < 64 {
+        complaints[i] = entries[i].complaints;
+        i += 1;
+    }
+    complaints
 }
 
 // The set with member i in it, where that member lacks message k.

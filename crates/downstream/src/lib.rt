@@ -4,6 +4,8 @@ mod columns;
 mod formed;
 mod state;
 
+pub use columns::complaints_of;
+pub use columns::counts_of;
 pub use columns::lacking;
 pub use columns::masks_of;
 pub use columns::numbers_of;

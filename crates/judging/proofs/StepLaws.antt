@@ -2,15 +2,17 @@
 use mathlib.Core.Path.{_≡_, refl, ap, _∙_}
 use mathlib.Core.Bool.{cond}
 use mathlib.Core.List.{List}
-use Prim.Native.Nat.{ℕ, _+_, _-_, _≤_}
+use Prim.Native.Nat.{ℕ, _+_, _-_, _≤_, _<_}
 use native.Mathlib.Omega.{arith}
 use lib.ListN.{getD}
 use Rattle.marks.specs.Masks.{isMarked, setBelow}
+use Rattle.marks.proofs.SetLaws.{set-cong}
 use Rattle.downstream.specs.declared.state.Entry.{Entry}
 use Rattle.downstream.specs.declared.state.Downstream.{Downstream}
-use Rattle.downstream.specs.State.{noEntry, placeAfter, sharesOf, reportAt, numbersOf, masksOf, pointFrom}
+use Rattle.downstream.specs.State.{noEntry, placeAfter, sharesOf, reportAt, numbersOf, masksOf, countsOf, complaintsOf, pointFrom}
+use Rattle.downstream.proofs.ColumnLaws.{count-at, complaint-at}
 use Rattle.judging.specs.Complaints.{entriesAfter, complainedEntry, isAgain, reportsAfter, pointAfter, takenOf, Taking}
-use Rattle.judging.specs.Verdicts.{isDue, dueOf, raisedEntry, judgedOf}
+use Rattle.judging.specs.Verdicts.{isDue, dueAt, dueOf, raisedEntry, judgedOf}
 
 -- ---- a report is taken
 module _ (d : Downstream) (s i c mask : ℕ) (t : Taking d s i c mask) (numbers : List ℕ) (p : ℕ) (en : numbers ≡ numbersOf (reportsAfter (d .reports) i c mask)) (ep : p ≡ pointFrom (d .cluster) numbers) where
@@ -35,11 +37,18 @@ pub ruleset taking = (take-order, take-near, take-low)
 
 -- ---- the open messages are judged
 module _ (d : Downstream) (s : ℕ) where
-  pub due-told : (numbers masks : List ℕ) (set : ℕ) → numbers ≡ numbersOf (d .reports) → masks ≡ masksOf (d .reports)
-      → set ≡ setBelow (s - d .point) (λ x. isDue (sharesOf (d .cluster)) (d .cluster .u) (d .cluster .r) numbers masks (d .point + 1 + x) (getD (d .entries) (placeAfter (d .point) x) noEntry))
+  same-entry : (j : ℕ) → j < 64 → _≡_ {A = Entry} (record { count = getD (countsOf (d .entries)) j 0; complaints = getD (complaintsOf (d .entries)) j 0 }) (getD (d .entries) j noEntry)
+  same-entry j l = rw (count-at (d .entries) j l, complaint-at (d .entries) j l) refl
+
+  -- by the columns
+  pub due-told : (numbers masks counts complaints : List ℕ) (set : ℕ)
+      → numbers ≡ numbersOf (d .reports) → masks ≡ masksOf (d .reports) → counts ≡ countsOf (d .entries) → complaints ≡ complaintsOf (d .entries)
+      → set ≡ setBelow (s - d .point) (λ x. isDue (sharesOf (d .cluster)) (d .cluster .u) (d .cluster .r) numbers masks (d .point + 1 + x)
+      (record { count = getD counts (placeAfter (d .point) x) 0; complaints = getD complaints (placeAfter (d .point) x) 0 }))
       → set ≡ dueOf d s
   unfolding dueOf
-  due-told numbers masks set en em e = e ∙ rw (en, em) refl
+  due-told numbers masks counts complaints set en em ec ex e = e ∙ rw (en, em, ec, ex)
+      (set-cong _ (dueAt d) (s - d .point) (λ x l. ap (isDue (sharesOf (d .cluster)) (d .cluster .u) (d .cluster .r) (numbersOf (d .reports)) (masksOf (d .reports)) (d .point + 1 + x)) (same-entry (placeAfter (d .point) x) (omega arith))))
 
   pub judged-told : (due : ℕ) (entries : List Entry) → due ≡ dueOf d s → entries ≡ entriesAfter (λ o e. cond (isMarked due o) (raisedEntry e) e) (d .point) (s - d .point) (d .entries)
       → _≡_ {A = Downstream} (record { cluster = d .cluster; point = d .point; reports = d .reports; entries = entries }) (judgedOf d s)

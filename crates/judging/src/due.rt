@@ -1,6 +1,8 @@
 // Judging the open messages: which verdicts are due, and what they change.
 use downstream::Downstream;
 use downstream::Entry;
+use downstream::complaints_of;
+use downstream::counts_of;
 use downstream::lacking;
 use downstream::masks_of;
 use downstream::numbers_of;
@@ -31,15 +33,16 @@ fn is_due(
     numbers: &[u64; 64],
     masks: &[u64; 64],
     k: u64,
-    e: Entry,
+    count: u64,
+    complaints: u64,
 ) -> bool
     requires { ⌜ length (now shares) ≤ 64 ⌝ }
-    ensures { λ b. ⌜ b ≡ isDue (now (shares .entry)) u r (now (numbers .entry)) (now (masks .entry)) k e ⌝ }
+    ensures { λ b. ⌜ b ≡ isDue (now (shares .entry)) u r (now (numbers .entry)) (now (masks .entry)) k (record { count = count; complaints = complaints }) ⌝ }
 {
-    if 255 <= e.count {
+    if 255 <= count {
         return false;
     }
-    let against = shares::share(shares, e.complaints);
+    let against = shares::share(shares, complaints);
     if against < r as u64 + 1 {
         return false;
     }
@@ -56,12 +59,13 @@ fn with_due(
     numbers: &[u64; 64],
     masks: &[u64; 64],
     k: u64,
-    e: Entry,
+    count: u64,
+    complaints: u64,
 ) -> u64
     requires { ⌜ length (now shares) ≤ 64 ⌝ }
-    ensures { λ b. ⌜ b ≡ cond (isDue (now (shares .entry)) u r (now (numbers .entry)) (now (masks .entry)) k e) (markOf set o) set ⌝ }
+    ensures { λ b. ⌜ b ≡ cond (isDue (now (shares .entry)) u r (now (numbers .entry)) (now (masks .entry)) k (record { count = count; complaints = complaints })) (markOf set o) set ⌝ }
 {
-    if is_due(shares, u, r, numbers, masks, k, e) {
+    if is_due(shares, u, r, numbers, masks, k, count, complaints) {
         marks::mark(set, o)
     } else {
         set
@@ -69,24 +73,37 @@ fn with_due(
 }
 
 // Those of the n messages after p that are due, a bit for each.
-fn due_among(
+// inner: for the report step, which has judged the report; its state may lie in words.
+pub fn due_among(
     shares: &[u32],
     u: u32,
     r: u32,
     numbers: &[u64; 64],
     masks: &[u64; 64],
-    entries: [Entry; 64],
+    counts: &[u64; 64],
+    complaints: &[u64; 64],
     p: u64,
     n: u64,
 ) -> u64
     requires { ⌜ (length (now shares) ≤ 64) × (p ≤ 1000000000000) × (n ≤ 64) ⌝ }
-    ensures { λ b. ⌜ b ≡ setBelow n (λ o. isDue (now (shares .entry)) u r (now (numbers .entry)) (now (masks .entry)) (p + 1 + o) (getD entries (placeAfter p o) noEntry)) ⌝ }
+    ensures { λ b. ⌜ b ≡ setBelow n (λ o. isDue (now (shares .entry)) u r (now (numbers .entry)) (now (masks .entry)) (p + 1 + o) (record { count = getD (now (counts .entry)) (placeAfter p o) 0; complaints = getD (now (complaints .entry)) (placeAfter p o) 0 })) ⌝ }
 {
     let mut set: u64 = 0;
     let mut o: u64 = 0;
     while o < n {
         let at = ((p + o) % 64) as usize;
-        set = with_due(set, o, shares, u, r, numbers, masks, p + 1 + o, entries[at]);
+        set = with_due(
+            set,
+            o,
+            shares,
+            u,
+            r,
+            numbers,
+            masks,
+            p + 1 + o,
+            counts[at],
+            complaints[at],
+        );
         o += 1;
     }
     set
@@ -105,13 +122,16 @@ pub fn due_set(d: Downstream, s: u64) -> u64
     let numbers = numbers_of(reports);
     let masks = masks_of(reports);
     let entries = d.entries;
+    let counts = counts_of(entries);
+    let complaints = complaints_of(entries);
     due_among(
         &shares[..n],
         d.cluster.u,
         d.cluster.r,
         &numbers,
         &masks,
-        entries,
+        &counts,
+        &complaints,
         p,
         s - p,
     )

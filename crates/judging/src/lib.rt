@@ -6,6 +6,7 @@ mod reports;
 pub use complaints::Hearing;
 pub use complaints::complaints_after;
 pub use complaints::taken;
+pub use due::due_among;
 pub use due::due_set;
 pub use due::judged;
 pub use reports::keeps_all;

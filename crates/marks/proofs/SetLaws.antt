@@ -1,5 +1,5 @@
 -- Masks as sets: a part of another, and the set of those that pass a test. Assumes nothing.
-use mathlib.Core.Path.{_≡_, refl, ap, sym, _∙_}
+use mathlib.Core.Path.{_≡_, refl, ap, ap₂, sym, _∙_}
 use mathlib.Core.Bool.{Bool, true, false, cond, not, _&&_, _||_}
 use mathlib.Core.Logic.{inl, inr}
 use Prim.Native.Nat.{ℕ, zero, suc, _+_, _-_, _/_, _%_, _^_, _≤_, _<_}
@@ -111,6 +111,12 @@ set-turn p i n {t} {r} l few e q = elim (bool-cases (p i)) [
 
 pub set-done : (p : ℕ → Bool) (i n : ℕ) {t : ℕ} → t ≡ setBelow i p → i ≤ n → n ≤ i → t ≡ setBelow n p
 set-done p i n {t} e a b = let z : i ≡ n = omega arith in rw z at e
+
+-- the same test, the same set
+pub set-cong : (p q : ℕ → Bool) (n : ℕ) → ((j : ℕ) → j < n → p j ≡ q j) → setBelow n p ≡ setBelow n q
+unfolding setBelow
+set-cong p q zero h = refl
+set-cong p q (suc n) h = ap₂ (λ (b : Bool) (t : ℕ). cond b (withMark t n) t) (h n (omega arith)) (set-cong p q n (λ j l. h j (omega arith)))
 
 -- a bit comes into the set or it does not
 module _ (t i r : ℕ) (b : Bool) where

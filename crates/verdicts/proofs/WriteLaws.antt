@@ -6,8 +6,9 @@ use mathlib.Core.List.{List, [], _∷_, _++_, append-assoc, append-nil}
 use Prim.Native.Nat.{ℕ, zero, suc, _+_, _-_, _*_, _/_, _%_, _≤_}
 use native.Mathlib.Nat.{mul-one}
 use native.Mathlib.Numerals.{add-one}
+use native.Mathlib.Decide.{decLt}
 use native.Mathlib.Omega.{arith}
-use lib.ListN.{length, getD, take, drop, length-append, length-take, length-drop, drop-of-length-le}
+use lib.ListN.{length, getD, take, drop, length-append, length-take, length-drop, drop-of-length-le, List·getD-eq-default}
 use lib.Seq.{take-all, drop-drop, take-at, drop-at, length-take-le}
 use mir.Val.{Fits}
 use mir.Syntax.{w32}
@@ -20,15 +21,16 @@ use Rattle.basics.proofs.ByteLaws.{length-le}
 use Rattle.basics.proofs.PartLaws.{fill-next}
 use Rattle.marks.specs.Masks.{isMarked}
 use Rattle.marks.proofs.MaskLaws.{marked-none}
-use Rattle.hamilton.specs.Hamilton.{countsOf, Dealable}
+use Rattle.hamilton.specs.Hamilton.{Dealable}
+use Rattle.hamilton.specs.Hamilton as hamilton
 use Rattle.hamilton.proofs.JudgeLaws.{length-counts}
 use Rattle.circle.specs.Positions.{Sized}
 use Rattle.circle.specs.declared.table.Ends.{Ends}
 use Rattle.resend.specs.Resends.{Ready, knownEnds}
-use Rattle.downstream.specs.declared.state.Entry.{Entry}
 use Rattle.downstream.specs.declared.state.Cluster.{Cluster}
 use Rattle.downstream.specs.declared.state.Downstream.{Downstream}
-use Rattle.downstream.specs.State.{noEntry, sharesOf}
+use Rattle.downstream.specs.State.{sharesOf, countsOf}
+use Rattle.downstream.proofs.ColumnLaws.{length-resent, count-at}
 use Rattle.judging.specs.Verdicts.{dueOf, Judging}
 use Rattle.verdicts.specs.Written.{verdictBytes, verdictOf, verdictsTo, verdictsOf, verdictCount, Writing}
 
@@ -94,13 +96,21 @@ module _ (ss rs : List ℕ) (q k n : ℕ) (a : ℕ) (xs : List ℕ) (due : Bool)
   pub not-due-at : due ≡ false → a ≡ cond due (a + 16) a
   not-due-at t = simp t
 
+-- a resend count is small
+module _ (counts : List ℕ) (j : ℕ) (h : (i : ℕ) → getD counts i 0 ≤ 255) where
+  pub small-count : getD counts j 0 ≤ 255
+  small-count = h j
+
+  pub small-fits : Fits w32 (getD counts j 0)
+  small-fits = record { fits = omega (arith, small-count) }
+
 -- ---- one verdict after another
-module _ (ss rs : List ℕ) (q due : ℕ) (entries : List Entry) (p : ℕ) where
+module _ (ss rs : List ℕ) (q due : ℕ) (counts : List ℕ) (p : ℕ) where
   abbrev sofar : ℕ → List ℕ
-  sofar o = verdictsTo ss rs q due entries p o
+  sofar o = verdictsTo ss rs q due counts p o
 
   abbrev verdict : ℕ → List ℕ
-  verdict o = verdictOf ss rs q (p + 1 + o) (getD entries ((p + o) % 64) noEntry .count + 1)
+  verdict o = verdictOf ss rs q (p + 1 + o) (getD counts ((p + o) % 64) 0 + 1)
 
   length-one : (o : ℕ) → length (verdict o) ≡ 16
   unfolding verdictOf
@@ -171,12 +181,12 @@ module _ (ss rs : List ℕ) (q due : ℕ) (entries : List Entry) (p : ℕ) where
   ]
 
 -- ---- the counts in a local array, cut to the members
-module _ (ss rs : List ℕ) (q : ℕ) (places z : List ℕ) (e : places ≡ countsOf ss q ++ drop (length ss) z) where
+module _ (ss rs : List ℕ) (q : ℕ) (places z : List ℕ) (e : places ≡ hamilton.countsOf ss q ++ drop (length ss) z) where
   pub counts-cut : length places ≡ 64 → Dealable ss q → length ss ≡ length (take (length ss) places)
   counts-cut n d = sym (length-take-le (length ss) places (omega (arith, d .few-members)))
 
   pub counts-ready : Sized ss → Sized rs → Dealable ss q → Ready ss rs (take (length ss) places) q
-  counts-ready a b d = record { sending = a; receiving = b; deals = d; counted = rw e (take-at (countsOf ss q) (drop (length ss) z) (length ss) (length-counts ss q)) }
+  counts-ready a b d = record { sending = a; receiving = b; deals = d; counted = rw e (take-at (hamilton.countsOf ss q) (drop (length ss) z) (length ss) (length-counts ss q)) }
 
 -- ---- all of them
 pub few-counted : (n : ℕ) (f : ℕ → Bool) → sumBelow n (λ o. cond (f o) 1 0) ≤ n
@@ -192,8 +202,8 @@ module _ (sending : Cluster) (q : ℕ) (d : Downstream) (s due : ℕ) (w : Writi
 
   none-written : due ≡ 0 → verdictsOf sending q d s ≡ []
   unfolding verdictsOf verdictCount
-  none-written z = none-long (verdictsTo (sharesOf sending) (sharesOf (d .cluster)) q (dueOf d s) (d .entries) (d .point) (s - d .point))
-      (written-count (sharesOf sending) (sharesOf (d .cluster)) q (dueOf d s) (d .entries) (d .point) (s - d .point) ∙ omega (arith, none-count z))
+  none-written z = none-long (verdictsTo (sharesOf sending) (sharesOf (d .cluster)) q (dueOf d s) (countsOf (d .entries)) (d .point) (s - d .point))
+      (written-count (sharesOf sending) (sharesOf (d .cluster)) q (dueOf d s) (countsOf (d .entries)) (d .point) (s - d .point) ∙ omega (arith, none-count z))
     where
       none-long : (l : List ℕ) → length l ≡ 0 → l ≡ []
       none-long [] h = refl
@@ -202,14 +212,21 @@ module _ (sending : Cluster) (q : ℕ) (d : Downstream) (s due : ℕ) (w : Writi
   pub none-put : (xs : List ℕ) → due ≡ 0 → xs ≡ verdictsOf sending q d s ++ drop (length (verdictsOf sending q d s)) xs
   none-put xs z = sym (ap (λ (l : List ℕ). l ++ drop (length l) xs) (none-written z))
 
-  module _ (bytes : ℕ) (eb : bytes ≡ length (verdictsTo (sharesOf sending) (sharesOf (d .cluster)) q due (d .entries) (d .point) (s - d .point))) where
-    same : verdictsTo (sharesOf sending) (sharesOf (d .cluster)) q due (d .entries) (d .point) (s - d .point) ≡ verdictsOf sending q d s
+  -- the resend counts, by place
+  pub counts-low : (counts : List ℕ) → counts ≡ countsOf (d .entries) → (j : ℕ) → getD counts j 0 ≤ 255
+  counts-low counts e j = elim (decLt j 64) [
+    | yes l ↦ omega (arith, ap (λ (x : List ℕ). getD x j 0) e, count-at (d .entries) j l, w .judging .counts j)
+    | no l ↦ omega (arith, List·getD-eq-default counts 0 {n = j} (rw e (rw (length-resent (d .entries)) (omega arith))))
+  ]
+
+  module _ (counts : List ℕ) (ec : counts ≡ countsOf (d .entries)) (bytes : ℕ) (eb : bytes ≡ length (verdictsTo (sharesOf sending) (sharesOf (d .cluster)) q due counts (d .point) (s - d .point))) where
+    same : verdictsTo (sharesOf sending) (sharesOf (d .cluster)) q due counts (d .point) (s - d .point) ≡ verdictsOf sending q d s
     unfolding verdictsOf
-    same = rw (w .due-is) refl
+    same = rw (w .due-is, ec) refl
 
     bytes-are : bytes ≡ 16 * count
     unfolding verdictsOf
-    bytes-are = eb ∙ ap length same ∙ written-count (sharesOf sending) (sharesOf (d .cluster)) q (dueOf d s) (d .entries) (d .point) (s - d .point)
+    bytes-are = eb ∙ ap length same ∙ written-count (sharesOf sending) (sharesOf (d .cluster)) q (dueOf d s) (countsOf (d .entries)) (d .point) (s - d .point)
 
     pub count-fits : Fits w32 (bytes / 16)
     count-fits = record { fits = omega (arith, bytes-are, few-counted (s - d .point) (isMarked (dueOf d s)), w .judging .near) }
@@ -218,7 +235,7 @@ module _ (sending : Cluster) (q : ℕ) (d : Downstream) (s due : ℕ) (w : Writi
     unfolding verdictCount
     count-told = omega (arith, bytes-are)
 
-    pub all-put : (xs ys : List ℕ) → ys ≡ verdictsTo (sharesOf sending) (sharesOf (d .cluster)) q due (d .entries) (d .point) (s - d .point) ++ drop bytes xs
+    pub all-put : (xs ys : List ℕ) → ys ≡ verdictsTo (sharesOf sending) (sharesOf (d .cluster)) q due counts (d .point) (s - d .point) ++ drop bytes xs
         → ys ≡ verdictsOf sending q d s ++ drop (length (verdictsOf sending q d s)) xs
     all-put xs ys e = e ∙ ap₂ (λ (l : List ℕ) (n : ℕ). l ++ drop n xs) same (eb ∙ ap length same)
 
@@ -226,7 +243,7 @@ module _ (sending : Cluster) (q : ℕ) (d : Downstream) (s due : ℕ) (w : Writi
 module _ (d : Downstream) (s : ℕ) where
   pub verdicts-long : (sending : Cluster) (q : ℕ) → length (verdictsOf sending q d s) ≡ 16 * verdictCount d s
   unfolding verdictsOf verdictCount
-  verdicts-long sending q = written-count (sharesOf sending) (sharesOf (d .cluster)) q (dueOf d s) (d .entries) (d .point) (s - d .point)
+  verdicts-long sending q = written-count (sharesOf sending) (sharesOf (d .cluster)) q (dueOf d s) (countsOf (d .entries)) (d .point) (s - d .point)
 
   pub few-verdicts : Judging d s → verdictCount d s ≤ 64
   unfolding verdictCount

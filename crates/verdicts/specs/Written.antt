@@ -11,9 +11,8 @@ use Rattle.hamilton.specs.Hamilton.{Dealable}
 use Rattle.circle.specs.Positions.{Sized}
 use Rattle.resend.specs.Resends.{senderOf, receiverOf}
 use Rattle.downstream.specs.declared.state.Cluster.{Cluster}
-use Rattle.downstream.specs.declared.state.Entry.{Entry}
 use Rattle.downstream.specs.declared.state.Downstream.{Downstream}
-use Rattle.downstream.specs.State.{noEntry, sharesOf, placeAfter}
+use Rattle.downstream.specs.State.{sharesOf, placeAfter, countsOf}
 use Rattle.judging.specs.Verdicts.{dueOf, Judging}
 
 -- Verdict, 16 bytes: message number (8, little-endian), sender, receiver, resend number, five zeros
@@ -25,15 +24,15 @@ unfoldable pub verdictOf : List ℕ → List ℕ → ℕ → ℕ → ℕ → Lis
 verdictOf ss rs q k n = verdictBytes k (senderOf ss rs q k n) (receiverOf ss rs q k n) n
 
 -- Verdicts fill the lent output one after another: those on the n messages after p that are due, in their order
-unfoldable pub verdictsTo : List ℕ → List ℕ → ℕ → ℕ → List Entry → ℕ → ℕ → List ℕ
-verdictsTo ss rs q due entries p zero = []
-verdictsTo ss rs q due entries p (suc o) =
-    verdictsTo ss rs q due entries p o
-    ++ cond (isMarked due o) (verdictOf ss rs q (p + 1 + o) (getD entries (placeAfter p o) noEntry .count + 1)) []
+unfoldable pub verdictsTo : List ℕ → List ℕ → ℕ → ℕ → List ℕ → ℕ → ℕ → List ℕ
+verdictsTo ss rs q due counts p zero = []
+verdictsTo ss rs q due counts p (suc o) =
+    verdictsTo ss rs q due counts p o
+    ++ cond (isMarked due o) (verdictOf ss rs q (p + 1 + o) (getD counts (placeAfter p o) 0 + 1)) []
 
 -- the verdicts on the messages from p + 1 up to S
 unfoldable pub verdictsOf : Cluster → ℕ → Downstream → ℕ → List ℕ
-verdictsOf sending q d s = verdictsTo (sharesOf sending) (sharesOf (d .cluster)) q (dueOf d s) (d .entries) (d .point) (s - d .point)
+verdictsOf sending q d s = verdictsTo (sharesOf sending) (sharesOf (d .cluster)) q (dueOf d s) (countsOf (d .entries)) (d .point) (s - d .point)
 
 -- how many verdicts were written
 unfoldable pub verdictCount : Downstream → ℕ → ℕ

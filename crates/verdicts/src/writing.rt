@@ -1,7 +1,7 @@
 // Writing the verdicts: each into the part of the lent output that is not yet written.
 use downstream::Cluster;
 use downstream::Downstream;
-use downstream::Entry;
+use downstream::counts_of;
 ghost use mathlib.Core.Path.{_≡_};
 ghost use mathlib.Core.Bool.{cond};
 ghost use mathlib.Core.List.{_++_};
@@ -11,7 +11,6 @@ ghost use Rattle.hamilton.specs.Hamilton.{Dealable};
 ghost use Rattle.circle.specs.Positions.{Sized};
 ghost use Rattle.circle.specs.TurnTable.{TurnTable};
 ghost use Rattle.resend.specs.Resends.{Ready};
-ghost use Rattle.downstream.specs.State.{noEntry};
 ghost use Rattle.verdicts.specs.Written.{verdictBytes, verdictOf, verdictsTo, verdictsOf, verdictCount, Writing};
 
 // The 16 bytes of a verdict at the start of a part; what lies behind them stays.
@@ -33,7 +32,7 @@ fn put_due(
     due: bool,
     ss: &[u32],
     rs: &[u32],
-    counts: &[u32],
+    slots: &[u32],
     senders: &[u32],
     receivers: &[u32],
     begins: &[u32],
@@ -42,13 +41,13 @@ fn put_due(
     k: u64,
     count: u32,
 ) -> usize
-    requires { ⌜ (at + 16 ≤ length (now out)) × (Ready (now ss) (now rs) (now counts) q) × (count ≤ 255) ⌝ }
+    requires { ⌜ (at + 16 ≤ length (now out)) × (Ready (now ss) (now rs) (now slots) q) × (count ≤ 255) ⌝ }
     requires { ⌜ TurnTable (now ss) (now rs) (now senders) (now receivers) (now begins) steps ⌝ }
     ensures { λ r. ⌜ (r ≡ cond due (at + 16) at) × (now (out .exit) ≡ cond due (take at (now (out .entry)) ++ (verdictOf (now (ss .entry)) (now (rs .entry)) q k (count + 1) ++ drop (at + 16) (now (out .entry)))) (now (out .entry))) ⌝ }
 {
     if due {
         let n = count + 1;
-        let ends = resend::known_ends(ss, rs, counts, senders, receivers, begins, steps, q, k, n);
+        let ends = resend::known_ends(ss, rs, slots, senders, receivers, begins, steps, q, k, n);
         put_verdict(&mut out[at..], k, ends.sender, ends.receiver, n);
         return at + 16;
     }
@@ -61,25 +60,25 @@ fn put_verdicts(
     due: u64,
     ss: &[u32],
     rs: &[u32],
-    counts: &[u32],
+    slots: &[u32],
     senders: &[u32],
     receivers: &[u32],
     begins: &[u32],
     steps: u32,
     q: u32,
-    entries: [Entry; 64],
+    counts: &[u64; 64],
     p: u64,
     n: u64,
 ) -> usize
-    requires { ⌜ (1024 ≤ length (now out)) × (Ready (now ss) (now rs) (now counts) q) × (p ≤ 1000000000000) × (n ≤ 64) × ((j : ℕ) → getD entries j noEntry .count ≤ 255) ⌝ }
+    requires { ⌜ (1024 ≤ length (now out)) × (Ready (now ss) (now rs) (now slots) q) × (p ≤ 1000000000000) × (n ≤ 64) × ((j : ℕ) → getD (now counts) j 0 ≤ 255) ⌝ }
     requires { ⌜ TurnTable (now ss) (now rs) (now senders) (now receivers) (now begins) steps ⌝ }
-    ensures { λ r. ⌜ (r ≡ length (verdictsTo (now (ss .entry)) (now (rs .entry)) q due entries p n)) × (now (out .exit) ≡ verdictsTo (now (ss .entry)) (now (rs .entry)) q due entries p n ++ drop r (now (out .entry))) ⌝ }
+    ensures { λ r. ⌜ (r ≡ length (verdictsTo (now (ss .entry)) (now (rs .entry)) q due (now (counts .entry)) p n)) × (now (out .exit) ≡ verdictsTo (now (ss .entry)) (now (rs .entry)) q due (now (counts .entry)) p n ++ drop r (now (out .entry))) ⌝ }
 {
     let mut at: usize = 0;
     let mut o: u64 = 0;
     while o < n {
         let place = ((p + o) % 64) as usize;
-        let e = entries[place];
+        let count = counts[place] as u32;
         let marked = marks::is_marked(due, o);
         at = put_due(
             out,
@@ -87,14 +86,14 @@ fn put_verdicts(
             marked,
             ss,
             rs,
-            counts,
+            slots,
             senders,
             receivers,
             begins,
             steps,
             q,
             p + 1 + o,
-            e.count,
+            count,
         );
         o += 1;
     }
@@ -107,14 +106,14 @@ fn verdicts_in_turn(
     due: u64,
     ss: &[u32],
     rs: &[u32],
-    counts: &[u32],
+    slots: &[u32],
     q: u32,
-    entries: [Entry; 64],
+    counts: &[u64; 64],
     p: u64,
     n: u64,
 ) -> usize
-    requires { ⌜ (1024 ≤ length (now out)) × (Ready (now ss) (now rs) (now counts) q) × (p ≤ 1000000000000) × (n ≤ 64) × ((j : ℕ) → getD entries j noEntry .count ≤ 255) ⌝ }
-    ensures { λ r. ⌜ (r ≡ length (verdictsTo (now (ss .entry)) (now (rs .entry)) q due entries p n)) × (now (out .exit) ≡ verdictsTo (now (ss .entry)) (now (rs .entry)) q due entries p n ++ drop r (now (out .entry))) ⌝ }
+    requires { ⌜ (1024 ≤ length (now out)) × (Ready (now ss) (now rs) (now slots) q) × (p ≤ 1000000000000) × (n ≤ 64) × ((j : ℕ) → getD (now counts) j 0 ≤ 255) ⌝ }
+    ensures { λ r. ⌜ (r ≡ length (verdictsTo (now (ss .entry)) (now (rs .entry)) q due (now (counts .entry)) p n)) × (now (out .exit) ≡ verdictsTo (now (ss .entry)) (now (rs .entry)) q due (now (counts .entry)) p n ++ drop r (now (out .entry))) ⌝ }
 {
     let mut senders = [0u32; 128];
     let mut receivers = [0u32; 128];
@@ -125,36 +124,37 @@ fn verdicts_in_turn(
         due,
         ss,
         rs,
-        counts,
+        slots,
         &senders,
         &receivers,
         &begins,
         steps,
         q,
-        entries,
+        counts,
         p,
         n,
     )
 }
 
 // The same, between clusters with these shares.
-fn verdicts_between(
+// inner: for the report step, which knows what is due; its state may lie in words.
+pub fn verdicts_between(
     out: &mut [u8],
     due: u64,
     ss: &[u32],
     rs: &[u32],
     q: u32,
-    entries: [Entry; 64],
+    counts: &[u64; 64],
     p: u64,
     n: u64,
 ) -> usize
-    requires { ⌜ (1024 ≤ length (now out)) × (Sized (now ss)) × (Sized (now rs)) × (Dealable (now ss) q) × (p ≤ 1000000000000) × (n ≤ 64) × ((j : ℕ) → getD entries j noEntry .count ≤ 255) ⌝ }
-    ensures { λ r. ⌜ (r ≡ length (verdictsTo (now (ss .entry)) (now (rs .entry)) q due entries p n)) × (now (out .exit) ≡ verdictsTo (now (ss .entry)) (now (rs .entry)) q due entries p n ++ drop r (now (out .entry))) ⌝ }
+    requires { ⌜ (1024 ≤ length (now out)) × (Sized (now ss)) × (Sized (now rs)) × (Dealable (now ss) q) × (p ≤ 1000000000000) × (n ≤ 64) × ((j : ℕ) → getD (now counts) j 0 ≤ 255) ⌝ }
+    ensures { λ r. ⌜ (r ≡ length (verdictsTo (now (ss .entry)) (now (rs .entry)) q due (now (counts .entry)) p n)) × (now (out .exit) ≡ verdictsTo (now (ss .entry)) (now (rs .entry)) q due (now (counts .entry)) p n ++ drop r (now (out .entry))) ⌝ }
 {
     let mut places = [0u32; 64];
     hamilton::fill_counts(ss, q, &mut places);
     let members = ss.len();
-    verdicts_in_turn(out, due, ss, rs, &places[..members], q, entries, p, n)
+    verdicts_in_turn(out, due, ss, rs, &places[..members], q, counts, p, n)
 }
 
 // The verdicts on the messages up to S, those that are due being known; and how many there are. Where none is due, nothing is counted out.
@@ -179,6 +179,7 @@ pub fn write_verdicts(
     let rs = d.cluster.shares;
     let p = d.point;
     let entries = d.entries;
-    let bytes = verdicts_between(out, due, &ss[..n], &rs[..m], q, entries, p, s - p);
+    let counts = counts_of(entries);
+    let bytes = verdicts_between(out, due, &ss[..n], &rs[..m], q, &counts, p, s - p);
     (bytes / 16) as u32
 }

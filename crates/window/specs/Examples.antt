@@ -18,7 +18,7 @@ use Rattle.resend.specs.Examples.{wholeResend}
 use Rattle.downstream.specs.declared.state.Report.{Report}
 use Rattle.downstream.specs.declared.state.Entry.{Entry}
 use Rattle.window.specs.declared.state.Window.{Window}
-use Rattle.downstream.specs.State.{noReport, noEntry, numbersOf, masksOf, pointFrom, isQuacked}
+use Rattle.downstream.specs.State.{noReport, noEntry, numbersOf, masksOf, countsOf, pointFrom, isQuacked}
 use Rattle.downstream.specs.Formed.{placesZero, clusterKept, spanKept, reportsKept, complaintsKept, entriesKept, downstreamKept}
 use Rattle.judging.specs.Reports.{keepsAll}
 use Rattle.window.specs.Formed.{wellFormed}
@@ -33,7 +33,7 @@ use Rattle.window.specs.Season.{Call, sends, reports, Answer, answerOf, 
 
 -- all that a window is computed with, named once: what unfolds this unfolds every name of its line
 unfoldable pub wholeWindow : Unit {0}
-unfolding wholeResend highestBelow largest leBytes isMarked withMark withoutMark markOf unmarkOf reachIn reachOf setBelow holdsOf highestOf noneAbove reachedOf pointOf clusterRefusal pairRefusal numbersOf masksOf pointFrom isQuacked placesZero clusterKept spanKept reportsKept complaintsKept entriesKept downstreamKept wellFormed openOf sendRefusal sendOf entriesAfter complains complaintsAfter takenOf isDue dueOf judgedOf verdictBytes verdictOf verdictsTo verdictsOf verdictCount keepsAll reportRefusal stepOf stepOut reportOf reportOut answerOf nextOf afterAll answersOf
+unfolding wholeResend highestBelow largest leBytes isMarked withMark withoutMark markOf unmarkOf reachIn reachOf setBelow holdsOf highestOf noneAbove reachedOf pointOf clusterRefusal pairRefusal numbersOf masksOf countsOf pointFrom isQuacked placesZero clusterKept spanKept reportsKept complaintsKept entriesKept downstreamKept wellFormed openOf sendRefusal sendOf entriesAfter complains complaintsAfter takenOf isDue dueOf judgedOf verdictBytes verdictOf verdictsTo verdictsOf verdictCount keepsAll reportRefusal stepOf stepOut reportOf reportOut answerOf nextOf afterAll answersOf
 wholeWindow = tt
 
 -- ---- E

@@ -21,14 +21,14 @@ use Rattle.downstream.specs.declared.state.Cluster.{Cluster}
 use Rattle.downstream.specs.declared.state.Report.{Report}
 use Rattle.downstream.specs.declared.state.Entry.{Entry}
 use Rattle.downstream.specs.declared.state.Downstream.{Downstream}
-use Rattle.downstream.specs.State.{noEntry, sharesOf, placeAfter, offsetAt, reportAt, numbersOf, masksOf}
+use Rattle.downstream.specs.State.{noEntry, sharesOf, placeAfter, offsetAt, reportAt, numbersOf, masksOf, countsOf, complaintsOf}
 use Rattle.downstream.specs.Formed.{placesZero, clusterKept, complaintsKept, entryKept, entriesKept, downstreamKept}
 use Rattle.downstream.proofs.FormedLaws.{cluster-few, cluster-accepted, kept-cluster, kept-entries}
 use Rattle.window.specs.declared.state.Window.{Window}
 use Rattle.window.specs.Formed.{wellFormed}
 use Rattle.window.proofs.FormedLaws.{formed-down, formed-sending, formed-quantum}
 use Rattle.words.specs.Taken.{wordAt, noneAbove, fits, columnAt, windowIn}
-use Rattle.words.specs.Put.{sharesWords, clusterWords, heardOf, countsOf, complaintsOf, reportWords, entryWords, wordsOf}
+use Rattle.words.specs.Put.{sharesWords, clusterWords, heardOf, reportWords, entryWords, wordsOf}
 use Rattle.words.proofs.RoundTrip.{Placed}
 
 -- ---- the numbers of a cluster that is kept are small

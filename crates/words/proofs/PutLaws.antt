@@ -13,10 +13,11 @@ use Rattle.basics.proofs.SumLaws.{length-list, list-turn}
 use Rattle.downstream.specs.declared.state.Cluster.{Cluster}
 use Rattle.downstream.specs.declared.state.Report.{Report}
 use Rattle.downstream.specs.declared.state.Entry.{Entry}
-use Rattle.downstream.specs.State.{noReport, noEntry, reportAt, numbersOf, masksOf}
+use Rattle.downstream.specs.State.{noReport, noEntry, reportAt, numbersOf, masksOf, countsOf, complaintsOf}
+use Rattle.downstream.proofs.ColumnLaws.{length-resent}
 use Rattle.window.specs.declared.state.Window.{Window}
 use Rattle.window.specs.Opening.{windowFrom}
-use Rattle.words.specs.Put.{zeros, sharesWords, clusterWords, heardOf, countsOf, complaintsOf, reportWords, entryWords, wordsOf}
+use Rattle.words.specs.Put.{zeros, sharesWords, clusterWords, heardOf, reportWords, entryWords, wordsOf}
 
 -- one part more behind those that are there
 more : (p ys s xs : List ℕ) (a k : ℕ) → xs ≡ p ++ drop a s → length p ≡ a → length ys ≡ k → putMid a k xs ys ≡ (p ++ ys) ++ drop (a + k) s
@@ -60,22 +61,18 @@ pub length-heard : (l : List Report) → length (heardOf l) ≡ 64
 unfolding heardOf
 length-heard l = length-list _ 64
 
-length-counts : (l : List Entry) → length (countsOf l) ≡ 64
-unfolding countsOf
-length-counts l = length-list (λ i. getD l i noEntry .count) 64
-
 length-complaints : (l : List Entry) → length (complaintsOf l) ≡ 64
 unfolding complaintsOf
 length-complaints l = length-list (λ i. getD l i noEntry .complaints) 64
 
 length-entries : (l : List Entry) → length (entryWords l) ≡ 128
 unfolding entryWords
-length-entries l = length-append (countsOf l) (complaintsOf l) ∙ omega (arith, length-counts l, length-complaints l)
+length-entries l = length-append (countsOf l) (complaintsOf l) ∙ omega (arith, length-resent l, length-complaints l)
 
 pub entries-put : (l : List Entry) (s a b : List ℕ) → length s ≡ 128 → a ≡ countsOf l → b ≡ complaintsOf l → putMid 64 64 (putMid 0 64 s a) b ≡ entryWords l
 unfolding entryWords
 entries-put l s a b n e f =
-    let la : length a ≡ 64 = ap length e ∙ length-counts l in
+    let la : length a ≡ 64 = ap length e ∙ length-resent l in
     let lb : length b ≡ 64 = ap length f ∙ length-complaints l in
     more a b s (putMid 0 64 s a) 64 64 (put-next [] a s 0 64 refl la) la lb ∙ full (a ++ b) s 128 n ∙ rw (e, f)
 

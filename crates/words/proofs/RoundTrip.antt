@@ -12,12 +12,12 @@ use Rattle.basics.proofs.SumLaws.{list-is, list-at, length-list}
 use Rattle.downstream.specs.declared.state.Cluster.{Cluster}
 use Rattle.downstream.specs.declared.state.Report.{Report}
 use Rattle.downstream.specs.declared.state.Entry.{Entry}
-use Rattle.downstream.specs.State.{noReport, noEntry, reportAt, numbersOf, masksOf}
+use Rattle.downstream.specs.State.{noReport, noEntry, reportAt, numbersOf, masksOf, countsOf, complaintsOf}
 use Rattle.window.specs.declared.state.Window.{Window}
 use Rattle.window.specs.Sending.{withSent}
 use Rattle.words.specs.Taken.{wordAt, fits, columnAt, clusterAt, reportIn, entryIn, reportsIn, entriesIn, windowIn}
 use Rattle.words.proofs.FitLaws.{flag-at}
-use Rattle.words.specs.Put.{sharesWords, clusterWords, heardOf, countsOf, complaintsOf, reportWords, entryWords, wordsOf}
+use Rattle.words.specs.Put.{sharesWords, clusterWords, heardOf, reportWords, entryWords, wordsOf}
 
 -- every array of a state has its 64 places
 pub record Placed (w : Window) : Type 0 where

@@ -7,7 +7,7 @@ use Rattle.basics.specs.Sums.{listBelow}
 use Rattle.downstream.specs.declared.state.Cluster.{Cluster}
 use Rattle.downstream.specs.declared.state.Report.{Report}
 use Rattle.downstream.specs.declared.state.Entry.{Entry}
-use Rattle.downstream.specs.State.{noEntry, reportAt, numbersOf, masksOf}
+use Rattle.downstream.specs.State.{reportAt, numbersOf, masksOf, countsOf, complaintsOf}
 use Rattle.window.specs.declared.state.Window.{Window}
 
 -- members, u, r, and 64 shares
@@ -20,13 +20,6 @@ clusterWords c = (c .members ∷ c .u ∷ c .r ∷ []) ++ sharesWords c
 -- whether each member has reported: 1 or 0
 unfoldable pub heardOf : List Report → List ℕ
 heardOf reports = listBelow 64 (λ i. cond (reportAt reports i .heard) 1 0)
-
--- the entries' resend counts, and their complaint sets
-unfoldable pub countsOf : List Entry → List ℕ
-countsOf entries = listBelow 64 (λ i. getD entries i noEntry .count)
-
-unfoldable pub complaintsOf : List Entry → List ℕ
-complaintsOf entries = listBelow 64 (λ i. getD entries i noEntry .complaints)
 
 unfoldable pub reportWords : List Report → List ℕ
 reportWords reports = numbersOf reports ++ masksOf reports ++ heardOf reports

@@ -7,10 +7,10 @@ ghost use mathlib.Core.Path.{_≡_};
 ghost use mathlib.Core.Bool.{true};
 ghost use mathlib.Core.List.{[], _∷_};
 ghost use lib.ListN.{length};
-ghost use Rattle.downstream.specs.State.{numbersOf, masksOf};
+ghost use Rattle.downstream.specs.State.{numbersOf, masksOf, countsOf, complaintsOf};
 ghost use Rattle.window.specs.Sending.{withSent};
 ghost use Rattle.words.specs.Taken.{fits, windowIn};
-ghost use Rattle.words.specs.Put.{sharesWords, clusterWords, heardOf, countsOf, complaintsOf, reportWords, entryWords, wordsOf};
+ghost use Rattle.words.specs.Put.{sharesWords, clusterWords, heardOf, reportWords, entryWords, wordsOf};
 
 pub(crate) fn put_three(a: u64, b: u64, c: u64, out: &mut [u64])
     requires { ⌜ length (now out) ≡ 3 ⌝ }

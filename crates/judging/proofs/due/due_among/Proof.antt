@@ -4,17 +4,17 @@ use mathlib.Core.Path.{_≡_}
 use lib.ListN.{length, getD}
 use Rattle.marks.specs.Masks.{setBelow}
 use Rattle.marks.proofs.SetLaws.{set-start, set-turn, set-done}
-use Rattle.downstream.specs.State.{noEntry, placeAfter}
+use Rattle.downstream.specs.State.{placeAfter}
 use Rattle.judging.specs.Verdicts.{isDue}
 use borrow.Author.Needs.{needs}
 use Rattle.judging.proofs.due.due_among.Statement.{statement}
 use Rattle.judging.proofs.due.due_among.Tie as tie
 
 abbrev Inv-loop : tie.InvT-loop
-Inv-loop shares u r numbers masks p n entries set₀ o₀ set o = (o ≤ n) × (n ≤ 64) × (p ≤ 1000000000000) × (length shares ≤ 64) × (set ≡ setBelow o (λ x. isDue shares u r numbers masks (p + 1 + x) (getD entries (placeAfter p x) noEntry)))
+Inv-loop shares u r numbers masks counts complaints p n set₀ o₀ set o = (o ≤ n) × (n ≤ 64) × (p ≤ 1000000000000) × (length shares ≤ 64) × (set ≡ setBelow o (λ x. isDue shares u r numbers masks (p + 1 + x) (record { count = getD counts (placeAfter p x) 0; complaints = getD complaints (placeAfter p x) 0 })))
 
 abbrev μ-loop : tie.MeasureT-loop
-μ-loop shares u r numbers masks p n entries set₀ o₀ set o = n - o
+μ-loop shares u r numbers masks counts complaints p n set₀ o₀ set o = n - o
 
 loop-holds : tie.Need-loop-holds Inv-loop μ-loop
 loop-holds c = (search needs, search needs, search needs, search needs, search set-start)
@@ -31,8 +31,14 @@ add-with-due-2 c = search needs
 mul-with-due : tie.Need-mul-with-due Inv-loop μ-loop
 mul-with-due c = search needs
 
-array-copy-out-with-due : tie.Need-array-copy-out-with-due Inv-loop μ-loop
-array-copy-out-with-due c = search needs
+element-copy-out-with-due : tie.Need-element-copy-out-with-due Inv-loop μ-loop
+element-copy-out-with-due c = search needs
+
+mul-with-due-2 : tie.Need-mul-with-due-2 Inv-loop μ-loop
+mul-with-due-2 c = search needs
+
+element-copy-out-with-due-2 : tie.Need-element-copy-out-with-due-2 Inv-loop μ-loop
+element-copy-out-with-due-2 c = search needs
 
 with-due-requires : tie.Need-with-due-requires Inv-loop μ-loop
 with-due-requires c κs = search needs
@@ -60,7 +66,9 @@ due-among-spec =
     add-with-due
     add-with-due-2
     mul-with-due
-    array-copy-out-with-due
+    element-copy-out-with-due
+    mul-with-due-2
+    element-copy-out-with-due-2
     with-due-requires
     add-o
     loop-less

@@ -14,6 +14,12 @@ numbers-of-requires c κs = search needs
 masks-of-requires : tie.Need-masks-of-requires
 masks-of-requires c κs = search needs
 
+counts-of-requires : tie.Need-counts-of-requires
+counts-of-requires c κs = search needs
+
+complaints-of-requires : tie.Need-complaints-of-requires
+complaints-of-requires c κs = search needs
+
 array-share-prefix-shares : tie.Need-array-share-prefix-shares
 array-share-prefix-shares c = search prefixes
 
@@ -36,6 +42,8 @@ due-set-spec =
     cast-n
     numbers-of-requires
     masks-of-requires
+    counts-of-requires
+    complaints-of-requires
     array-share-prefix-shares
     slice-aggregate-due-among
     sub-due-among

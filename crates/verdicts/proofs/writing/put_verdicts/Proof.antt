@@ -5,18 +5,17 @@ use mathlib.Core.List.{_++_}
 use lib.ListN.{length, drop, getD}
 use Rattle.circle.specs.TurnTable.{TurnTable}
 use Rattle.resend.specs.Resends.{Ready}
-use Rattle.downstream.specs.State.{noEntry}
 use Rattle.verdicts.specs.Written.{verdictsTo}
-use Rattle.verdicts.proofs.WriteLaws.{written-start, written-none, written-at, written-turn, written-bound, written-kept, written-done, written-length}
+use Rattle.verdicts.proofs.WriteLaws.{small-count, small-fits, written-start, written-none, written-at, written-turn, written-bound, written-kept, written-done, written-length}
 use borrow.Author.Needs.{needs}
 use Rattle.verdicts.proofs.writing.put_verdicts.Statement.{statement}
 use Rattle.verdicts.proofs.writing.put_verdicts.Tie as tie
 
 abbrev Inv-loop : tie.InvT-loop
-Inv-loop out₀ due ss rs counts senders receivers begins steps q p n entries at₀ o₀ out at o = (o ≤ n) × (n ≤ 64) × (p ≤ 1000000000000) × (1024 ≤ length out₀) × (length out ≡ length out₀) × (at ≤ 16 * o) × Ready ss rs counts q × TurnTable ss rs senders receivers begins steps × ((j : ℕ) → getD entries j noEntry .count ≤ 255) × (at ≡ length (verdictsTo ss rs q due entries p o)) × (out ≡ verdictsTo ss rs q due entries p o ++ drop at out₀)
+Inv-loop out₀ due ss rs slots senders receivers begins steps q counts p n at₀ o₀ out at o = (o ≤ n) × (n ≤ 64) × (p ≤ 1000000000000) × (1024 ≤ length out₀) × (length out ≡ length out₀) × (at ≤ 16 * o) × Ready ss rs slots q × TurnTable ss rs senders receivers begins steps × ((j : ℕ) → getD counts j 0 ≤ 255) × (at ≡ length (verdictsTo ss rs q due counts p o)) × (out ≡ verdictsTo ss rs q due counts p o ++ drop at out₀)
 
 abbrev μ-loop : tie.MeasureT-loop
-μ-loop out₀ due ss rs counts senders receivers begins steps q p n entries at₀ o₀ out at o = n - o
+μ-loop out₀ due ss rs slots senders receivers begins steps q counts p n at₀ o₀ out at o = n - o
 
 loop-holds : tie.Need-loop-holds Inv-loop μ-loop
 loop-holds c = (search needs, search needs, search needs, search needs, search needs, search needs, search needs, search needs, search needs, search written-none, search written-start)
@@ -24,11 +23,14 @@ loop-holds c = (search needs, search needs, search needs, search needs, search n
 add-place : tie.Need-add-place Inv-loop μ-loop
 add-place c = search needs
 
-mul-e : tie.Need-mul-e Inv-loop μ-loop
-mul-e c = search needs
+mul-count : tie.Need-mul-count Inv-loop μ-loop
+mul-count c = search needs
 
-array-copy-out-e : tie.Need-array-copy-out-e Inv-loop μ-loop
-array-copy-out-e c = search needs
+element-copy-out-count : tie.Need-element-copy-out-count Inv-loop μ-loop
+element-copy-out-count c = search needs
+
+cast-count : tie.Need-cast-count Inv-loop μ-loop
+cast-count c = search small-fits
 
 is-marked-requires : tie.Need-is-marked-requires Inv-loop μ-loop
 is-marked-requires c κs = search needs
@@ -40,7 +42,7 @@ add-put-due-2 : tie.Need-add-put-due-2 Inv-loop μ-loop
 add-put-due-2 c = search needs
 
 put-due-requires : tie.Need-put-due-requires Inv-loop μ-loop
-put-due-requires c κs = ((search needs, search needs, search (c .before .before .before .before .loop .inv .8)), search needs)
+put-due-requires c κs = ((search needs, search needs, search small-count), search needs)
 
 add-o : tie.Need-add-o Inv-loop μ-loop
 add-o c = search needs
@@ -69,8 +71,9 @@ put-verdicts-spec =
     μ-loop
     loop-holds
     add-place
-    mul-e
-    array-copy-out-e
+    mul-count
+    element-copy-out-count
+    cast-count
     is-marked-requires
     add-put-due
     add-put-due-2

@@ -1,6 +1,6 @@
 -- Where none is due nothing is written; otherwise the bytes are 16 for each.
 use Rattle.downstream.proofs.FormedLaws.{prefixes}
-use Rattle.verdicts.proofs.WriteLaws.{none-count, none-put, count-fits, count-told, all-put}
+use Rattle.verdicts.proofs.WriteLaws.{none-count, none-put, counts-low, count-fits, count-told, all-put}
 use borrow.Author.Needs.{needs}
 use Rattle.verdicts.proofs.writing.write_verdicts.Statement.{statement}
 use Rattle.verdicts.proofs.writing.write_verdicts.Tie as tie
@@ -13,6 +13,9 @@ cast-n c = search needs
 
 cast-m : tie.Need-cast-m
 cast-m c = search needs
+
+counts-of-requires : tie.Need-counts-of-requires
+counts-of-requires c κs = search needs
 
 array-share-prefix-ss : tie.Need-array-share-prefix-ss
 array-share-prefix-ss c = search prefixes
@@ -30,7 +33,7 @@ sub-verdicts-between : tie.Need-sub-verdicts-between
 sub-verdicts-between c = search needs
 
 verdicts-between-requires : tie.Need-verdicts-between-requires
-verdicts-between-requires c κs = search needs
+verdicts-between-requires c κs = (search needs, search needs, search needs, search needs, search needs, search needs, search counts-low)
 
 cast-result : tie.Need-cast-result
 cast-result c = search count-fits
@@ -48,6 +51,7 @@ write-verdicts-spec =
     returns
     cast-n
     cast-m
+    counts-of-requires
     array-share-prefix-ss
     slice-aggregate-verdicts-between
     array-share-prefix-rs

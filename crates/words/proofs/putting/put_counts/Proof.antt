@@ -6,8 +6,7 @@ use lib.ListN.{length, drop, getD}
 use Rattle.basics.specs.Sums.{listBelow}
 use Rattle.basics.proofs.SumLaws.{list-start}
 use Rattle.words.proofs.ColumnLaws.{fill-turn, fill-done}
-use Rattle.downstream.specs.State.{noEntry}
-use Rattle.words.specs.Put.{countsOf}
+use Rattle.downstream.specs.State.{noEntry, countsOf}
 use borrow.Author.Needs.{needs}
 use Rattle.words.proofs.putting.put_counts.Statement.{statement}
 use Rattle.words.proofs.putting.put_counts.Tie as tie
