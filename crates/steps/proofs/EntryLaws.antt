@@ -14,16 +14,15 @@ use Rattle.basics.proofs.BoolLaws.{bool-cases}
 use Rattle.basics.proofs.SumLaws.{length-list, list-at, list-is}
 use Rattle.marks.specs.Masks.{isMarked, unmarkOf}
 use Rattle.downstream.specs.declared.state.Entry.{Entry}
-use Rattle.downstream.specs.State.{noEntry, offsetAt}
+use Rattle.downstream.specs.State.{noEntry, offsetAt, countsOf, complaintsOf}
 use Rattle.judging.specs.Complaints.{entriesAfter, complainedEntry, complaintsAfter}
 use Rattle.judging.specs.Verdicts.{raisedEntry}
 use Rattle.judging.proofs.PlaceLaws.{entries-length, entries-place}
 use Rattle.words.specs.Taken.{wordAt, entryIn, entriesIn}
-use Rattle.words.specs.Put.{countsOf, complaintsOf}
 use Rattle.steps.specs.Columns.{countsAfter, heardAfter, raisedCounts, emptiedSets}
 
 -- ---- two columns with the same words
-same-list : {A : Type 0} (f g : ℕ → A) (d : A) → ((j : ℕ) → j < 64 → f j ≡ g j) → listBelow 64 f ≡ listBelow 64 g
+pub same-list : {A : Type 0} (f g : ℕ → A) (d : A) → ((j : ℕ) → j < 64 → f j ≡ g j) → listBelow 64 f ≡ listBelow 64 g
 same-list f g d h = list-is g d 64 (listBelow 64 f) (length-list f 64) (λ j l. list-at f d 64 j l ∙ h j l)
 
 count-of : (b : Bool) (x y : Entry) → (cond b x y) .count ≡ cond b (x .count) (y .count)

@@ -4,4 +4,6 @@ pub mod EntryLaws
 pub mod HearLaws
 pub mod StoreLaws
 pub mod RefusalLaws
+pub mod VerdictLaws
 pub mod StepLaws
+pub mod QuietLaws

@@ -2,46 +2,53 @@
 use mathlib.Core.Path.{_≡_, refl, ap, sym, _∙_}
 use mathlib.Core.Bool.{Bool, true, false, cond, _&&_}
 use mathlib.Core.List.{List, _++_, append-assoc}
-use Prim.Native.Nat.{ℕ, _+_, _-_, _≤_, _<_}
+use Prim.Native.Nat.{ℕ, _+_, _-_, _/_, _≤_, _<_}
 use lib.ListN.{length, getD, List·getD-eq-default}
 use native.Mathlib.Decide.{decLt}
 use native.Mathlib.Omega.{arith}
 use lib.Dec.{ltb}
-use lib.ListN.{length, getD, set, take, length-append}
+use lib.ListN.{length, getD, set, take, drop, length-append}
 use lib.Seq.{take-at}
 use borrow.Author.Tests.{le-ltb}
 use Rattle.basics.proofs.SumLaws.{length-list}
-use Rattle.marks.specs.Masks.{isMarked}
+use Rattle.marks.specs.Masks.{isMarked, setBelow}
+use Rattle.marks.specs.Held.{highestOf}
 use Rattle.marks.proofs.MaskLaws.{marked-none}
 use Rattle.marks.proofs.SetLaws.{marked-set}
+use Rattle.downstream.specs.declared.state.Cluster.{Cluster}
 use Rattle.downstream.specs.declared.state.Entry.{Entry}
 use Rattle.downstream.specs.declared.state.Report.{Report}
 use Rattle.downstream.specs.declared.state.Downstream.{Downstream}
-use Rattle.downstream.specs.State.{noEntry, offsetAt, reportAt, numbersOf, masksOf, pointFrom}
+use Rattle.downstream.specs.State.{noEntry, offsetAt, sharesOf, placeAfter, reportAt, numbersOf, masksOf, countsOf, complaintsOf, pointFrom}
 use Rattle.downstream.proofs.FormedLaws.{kept-span, kept-cluster, cluster-few, span-limit, span-order}
 use Rattle.judging.specs.declared.complaints.Hearing.{Hearing}
 use Rattle.judging.specs.Reports.{Accepting}
 use Rattle.judging.specs.Complaints.{entriesAfter, complainedEntry, isAgain, reportsAfter, pointAfter, takenOf, Taking}
-use Rattle.judging.specs.Verdicts.{dueAt, dueOf, raisedEntry, judgedOf, Judging}
+use Rattle.judging.specs.Verdicts.{isDue, dueAt, dueOf, raisedEntry, judgedOf, Judging}
+use Rattle.judging.proofs.StepLaws.{due-told}
 use Rattle.judging.proofs.Accepted.{may-take}
 use Rattle.judging.proofs.Kept.{may-judge}
 use Rattle.judging.proofs.PlaceLaws.{entries-length, entries-place}
 use Rattle.window.specs.declared.state.Window.{Window}
+use Rattle.window.specs.Formed.{wellFormed}
 use Rattle.window.specs.Reporting.{Reportable}
-use Rattle.window.specs.Answers.{withDownstream, stepOf}
-use Rattle.words.specs.Taken.{wordAt, columnAt, clusterAt, reportsIn, entriesIn, windowIn}
-use Rattle.words.specs.Put.{clusterWords, reportWords, entryWords, countsOf, complaintsOf, wordsOf}
+use Rattle.window.specs.Answers.{withDownstream, stepOf, stepOut}
+use Rattle.window.proofs.ReportLaws.{step-writing}
+use Rattle.verdicts.specs.Written.{verdictsTo, verdictsOf, verdictCount, Writing}
+use Rattle.verdicts.proofs.WriteLaws.{none-count, none-put, counts-low, verdicts-long}
+use Rattle.words.specs.Taken.{wordAt, fits, columnAt, clusterAt, reportIn, reportsIn, entriesIn, windowIn}
+use Rattle.words.specs.Put.{clusterWords, reportWords, entryWords, wordsOf}
 use Rattle.words.proofs.JudgeLaws.{numbers-column, masks-column}
 use Rattle.words.proofs.PutLaws.{length-reports}
 use Rattle.steps.specs.Columns.{countsAfter, heardAfter, small, raisedCounts, emptiedSets}
 use Rattle.steps.specs.Stored.{withReport}
-use Rattle.steps.specs.Stepping.{Stepping}
+use Rattle.steps.specs.Stepping.{Stepping, takenIn, stepIn, verdictsIn}
 use Rattle.steps.proofs.RefusalLaws.{former-in}
 use Rattle.steps.proofs.StoreLaws.{front, length-front, places-in, numbers-set, masks-set}
-use Rattle.steps.proofs.EntryLaws.{heard-counts, heard-sets, judged-counts, judged-sets, judged-same, count-in}
+use Rattle.steps.proofs.EntryLaws.{heard-counts, heard-sets, judged-counts, judged-sets, judged-same}
 
 -- ---- the words of a state with other entries
-abbrev withEntries : Window → List Entry → Window
+abbrev pub withEntries : Window → List Entry → Window
 withEntries w l =
     record {
       sending = w .sending;
@@ -87,8 +94,27 @@ module _ (ws : List ℕ) (i c mask room : ℕ) (a : Reportable (windowIn ws) i c
   unfolding windowIn
   point-is p e = e ∙ ap (pointFrom (clusterAt ws 67)) (ap (λ (l : List ℕ). set l i c) (numbers-column ws) ∙ numbers-set (reportsIn ws) i c mask (places-in ws) ready-member)
 
+  -- and so it may be taken, heard as it was given
+  pub ready-stepping : fits ws ≡ true → (h : Hearing) (p : ℕ) → h ≡ record { member = i; number = c; mask = mask; highest = highestOf c mask; again = isAgain (reportIn ws i) c }
+      → p ≡ pointFrom (clusterAt ws 67) (set (columnAt ws 137) i c) → Stepping ws h p
+  ready-stepping f h p eh ep = rw eh (record { fit = f; formed = a .formed; accepting = a .accepting; highest = refl; again = refl; point = point-is p ep })
+
+  -- what was done with what was heard was done with what was given
+  module _ (h : Hearing) (eh : h ≡ record { member = i; number = c; mask = mask; highest = highestOf c mask; again = isAgain (reportIn ws i) c }) where
+    pub heard-member : h .member < 64
+    heard-member = rw eh ready-member
+
+    pub heard-verdicts : (v : ℕ) → v ≡ stepIn ws h .verdicts → v ≡ stepOf d (w .sent) i c mask .verdicts
+    heard-verdicts v e = e ∙ rw eh refl
+
+    pub heard-words : (l : List ℕ) → l ≡ wordsOf (withDownstream w (stepIn ws h .downstream)) → l ≡ wordsOf (withDownstream w (stepOf d (w .sent) i c mask .downstream))
+    heard-words l e = e ∙ rw eh refl
+
+    pub heard-out : (xs ys : List ℕ) → ys ≡ stepOut (w .sending) (w .quantum) d (w .sent) (h .member) (h .number) (h .mask) xs → ys ≡ stepOut (w .sending) (w .quantum) d (w .sent) i c mask xs
+    heard-out xs ys e = e ∙ rw eh refl
+
 -- ---- where it is taken
-module _ (ws : List ℕ) (h : Hearing) (p room : ℕ) (k : Stepping ws h p room) where
+module _ (ws : List ℕ) (h : Hearing) (p : ℕ) (k : Stepping ws h p) where
   abbrev before : Downstream
   before = windowIn ws .downstream
 
@@ -96,10 +122,10 @@ module _ (ws : List ℕ) (h : Hearing) (p room : ℕ) (k : Stepping ws h p room)
   sent = windowIn ws .sent
 
   abbrev taken : Downstream
-  taken = takenOf before sent (h .member) (h .number) (h .mask)
+  taken = takenIn ws h
 
   may : Taking before sent (h .member) (h .number) (h .mask)
-  may = may-take before sent (h .member) (h .number) (h .mask) (k .ready .accepting) (places-in ws)
+  may = may-take before sent (h .member) (h .number) (h .mask) (k .accepting) (places-in ws)
 
   pub step-member : h .member < 64
   step-member = may .member
@@ -107,8 +133,18 @@ module _ (ws : List ℕ) (h : Hearing) (p room : ℕ) (k : Stepping ws h p room)
   pub step-number : h .number ≤ 1000000000000
   step-number = may .low
 
-  pub step-fit : Stepping ws h p room
-  step-fit = k
+  pub step-few : wordAt ws 67 ≤ 64
+  unfolding windowIn clusterAt
+  step-few = may .few
+
+  pub step-fit : fits ws ≡ true
+  step-fit = k .fit
+
+  pub step-highest : h .highest ≡ highestOf (h .number) (h .mask)
+  step-highest = k .highest
+
+  pub step-formed : wellFormed (windowIn ws) ≡ true
+  step-formed = k .formed
 
   pub step-low : p ≤ 1000000000000
   step-low = omega (arith, k .point, may .order, may .limit)
@@ -122,20 +158,25 @@ module _ (ws : List ℕ) (h : Hearing) (p room : ℕ) (k : Stepping ws h p room)
   step-near = omega (arith, k .point, may .near)
 
   pub step-judging : Judging taken sent
-  step-judging = may-judge before sent (h .member) (h .number) (h .mask) (k .ready .accepting) (places-in ws)
+  step-judging = may-judge before sent (h .member) (h .number) (h .mask) (k .accepting) (places-in ws)
+
+  -- for an output that has just the room
+  writing : Writing (windowIn ws .sending) (windowIn ws .quantum) taken sent (dueOf taken sent)
+  writing = step-writing (windowIn ws .sending) (windowIn ws .quantum) sent before (h .member) (h .number) (h .mask) 1024
+      (record { formed = k .formed; enough = omega arith; accepting = k .accepting }) taken refl (places-in ws) (dueOf taken sent) refl
 
   -- ---- the columns are those of the state in which the report is taken
   again-is : isAgain (reportAt (before .reports) (h .member)) (h .number) ≡ h .again
   again-is = ap (λ (r : Report). isAgain r (h .number)) (former-in ws (h .member) step-member) ∙ sym (k .again)
 
-  abbrev heard : List Entry
+  abbrev pub heard : List Entry
   heard = entriesAfter (complainedEntry (h .member) (h .number) (h .mask) (h .again) p) p (wordAt ws 135 - p) (entriesIn ws)
 
-  entries-are : taken .entries ≡ heard
+  pub entries-are : taken .entries ≡ heard
   unfolding takenOf windowIn
   entries-are = rw (again-is, ← k .point) refl
 
-  point-same : taken .point ≡ p
+  pub point-same : taken .point ≡ p
   unfolding takenOf
   point-same = sym (k .point)
 
@@ -154,13 +195,19 @@ module _ (ws : List ℕ) (h : Hearing) (p room : ℕ) (k : Stepping ws h p room)
   step-masks masks e = ap (λ (l : List ℕ). set l (h .member) (h .mask)) (e ∙ masks-column ws) ∙ masks-set (reportsIn ws) (h .member) (h .number) (h .mask) (places-in ws) step-member
 
   pub step-small : (counts : List ℕ) → counts ≡ countsAfter ws p (wordAt ws 135 - p) → small counts
-  unfolding countsOf
-  step-small counts e j = rw (step-counts counts e) (elim (decLt j 64) [
-    | yes l ↦ rw (count-in (taken .entries) j l) (step-judging .counts j)
-    | no l ↦ rw (List·getD-eq-default (countsOf (taken .entries)) 0 {n = j} (omega (arith, length-list (λ x. getD (taken .entries) x noEntry .count) 64))) (omega arith)
-  ])
+  step-small counts e = counts-low (windowIn ws .sending) (windowIn ws .quantum) taken sent (dueOf taken sent) writing counts (step-counts counts e)
 
   -- ---- the verdicts
+  pub step-due : (cluster : Cluster) (numbers masks counts sets : List ℕ) (due : ℕ) → cluster ≡ clusterAt ws 67 → numbers ≡ columnAt ws 137 → masks ≡ columnAt ws 201
+      → counts ≡ countsAfter ws p (wordAt ws 135 - p) → sets ≡ heardAfter ws (h .member) (h .number) (h .mask) (h .again) p (wordAt ws 135 - p)
+      → due ≡ setBelow (wordAt ws 135 - p) (λ o. isDue (take (cluster .members) (cluster .shares)) (cluster .u) (cluster .r) (set numbers (h .member) (h .number)) (set masks (h .member) (h .mask)) (p + 1 + o)
+      (record { count = getD counts (placeAfter p o) 0; complaints = getD sets (placeAfter p o) 0 }))
+      → due ≡ dueOf taken sent
+  unfolding takenOf windowIn
+  step-due cluster numbers masks counts sets due el en em ec es e =
+      due-told taken sent (set numbers (h .member) (h .number)) (set masks (h .member) (h .mask)) counts sets due (step-numbers numbers en) (step-masks masks em) (step-counts counts ec) (step-sets sets es)
+      (e ∙ rw (el, point-same) refl)
+
   past : (o : ℕ) → wordAt ws 135 - p ≤ o → isMarked (dueOf taken sent) o ≡ false
   unfolding dueOf windowIn
   past o l = marked-set (dueAt taken) (sent - taken .point) o ∙ simp (le-ltb o (sent - taken .point) (omega (arith, point-same)))
@@ -171,7 +218,7 @@ module _ (ws : List ℕ) (h : Hearing) (p room : ℕ) (k : Stepping ws h p room)
       ∙ entries-place (complainedEntry (h .member) (h .number) (h .mask) (h .again) p) p (entriesIn ws) (wordAt ws 135 - p) j l
       ∙ simp (le-ltb (offsetAt p j) (wordAt ws 135 - p) m)
 
-  abbrev after : Downstream
+  abbrev pub after : Downstream
   after = stepOf before sent (h .member) (h .number) (h .mask) .downstream
 
   abbrev judgedEntries : ℕ → List Entry
@@ -181,7 +228,7 @@ module _ (ws : List ℕ) (h : Hearing) (p room : ℕ) (k : Stepping ws h p room)
   unfolding stepOf judgedOf windowIn
   after-entries = rw point-same refl
 
-  stepped : withEntries (withReport (windowIn ws) (h .member) (h .number) (h .mask) p) (after .entries) ≡ withDownstream (windowIn ws) after
+  pub stepped : withEntries (withReport (windowIn ws) (h .member) (h .number) (h .mask) p) (after .entries) ≡ withDownstream (windowIn ws) after
   unfolding stepOf judgedOf takenOf
   stepped = rw (← k .point) refl
 
@@ -215,8 +262,30 @@ module _ (ws : List ℕ) (h : Hearing) (p room : ℕ) (k : Stepping ws h p room)
           ∙ judged-same due p (wordAt ws 135 - p) (taken .entries) past-due closed (λ o. ap (λ (x : ℕ). isMarked x o) z ∙ marked-none o)
           (ap length entries-are ∙ entries-length (complainedEntry (h .member) (h .number) (h .mask) (h .again) p) p (entriesIn ws) (wordAt ws 135 - p))
 
+      pub step-none : 0 ≡ stepIn ws h .verdicts
+      unfolding stepOf
+      step-none = none-count (windowIn ws .sending) (windowIn ws .quantum) taken sent (dueOf taken sent) writing (sym ed ∙ z)
+
+      pub step-none-out : (out : List ℕ) → out ≡ stepOut (windowIn ws .sending) (windowIn ws .quantum) before sent (h .member) (h .number) (h .mask) out
+      unfolding stepOut
+      step-none-out out = none-put (windowIn ws .sending) (windowIn ws .quantum) taken sent (dueOf taken sent) writing out (sym ed ∙ z)
+
       pub step-counts-stay : (counts : List ℕ) → counts ≡ countsAfter ws p (wordAt ws 135 - p) → counts ≡ countsOf (after .entries)
       step-counts-stay counts e = step-counts counts e ∙ ap countsOf (sym entries-stay)
 
       pub step-sets-stay : (sets : List ℕ) → sets ≡ heardAfter ws (h .member) (h .number) (h .mask) (h .again) p (wordAt ws 135 - p) → sets ≡ complaintsOf (after .entries)
       step-sets-stay sets e = step-sets sets e ∙ ap complaintsOf (sym entries-stay)
+
+    -- the verdicts that are written
+    verdicts-are : (counts : List ℕ) → counts ≡ countsAfter ws p (wordAt ws 135 - p) → verdictsIn ws due counts p ≡ verdictsOf (windowIn ws .sending) (windowIn ws .quantum) taken sent
+    unfolding verdictsIn verdictsOf takenOf windowIn
+    verdicts-are counts ec = rw (step-counts counts ec, ed, ← point-same) refl
+
+    pub step-verdicts : (counts : List ℕ) (v : ℕ) → counts ≡ countsAfter ws p (wordAt ws 135 - p) → v ≡ length (verdictsIn ws due counts p) / 16 → v ≡ stepIn ws h .verdicts
+    unfolding stepOf
+    step-verdicts counts v ec e = omega (arith, e, ap length (verdicts-are counts ec), verdicts-long taken sent (windowIn ws .sending) (windowIn ws .quantum))
+
+    pub step-out : (counts xs ys : List ℕ) → counts ≡ countsAfter ws p (wordAt ws 135 - p) → ys ≡ verdictsIn ws due counts p ++ drop (length (verdictsIn ws due counts p)) xs
+        → ys ≡ stepOut (windowIn ws .sending) (windowIn ws .quantum) before sent (h .member) (h .number) (h .mask) xs
+    unfolding stepOut
+    step-out counts xs ys ec e = e ∙ ap (λ (l : List ℕ). l ++ drop (length l) xs) (verdicts-are counts ec)

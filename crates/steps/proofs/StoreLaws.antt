@@ -14,11 +14,11 @@ use Rattle.basics.proofs.SumLaws.{length-list, list-at, list-is}
 use Rattle.basics.proofs.PartLaws.{put-next}
 use Rattle.downstream.specs.declared.state.Report.{Report}
 use Rattle.downstream.specs.declared.state.Entry.{Entry}
-use Rattle.downstream.specs.State.{noReport, reportAt, numbersOf, masksOf}
+use Rattle.downstream.specs.State.{noReport, reportAt, numbersOf, masksOf, countsOf, complaintsOf}
 use Rattle.judging.specs.Complaints.{reportsAfter}
 use Rattle.window.specs.declared.state.Window.{Window}
 use Rattle.words.specs.Taken.{fits, windowIn, reportsIn, reportIn}
-use Rattle.words.specs.Put.{sharesWords, clusterWords, heardOf, countsOf, complaintsOf, reportWords, entryWords, wordsOf}
+use Rattle.words.specs.Put.{sharesWords, clusterWords, heardOf, reportWords, entryWords, wordsOf}
 use Rattle.words.proofs.RoundTrip.{put-back}
 use Rattle.words.proofs.PutLaws.{length-cluster, length-numbers, length-masks, length-heard, length-reports}
 use Rattle.words.proofs.ColumnLaws.{fill-done}
@@ -167,3 +167,7 @@ entries-put s a b x y n lx ly ea eb =
     rw (one, eb) (put-next (take 329 s ++ x) y s 393 64 lx′ ly)
     ∙ ap (λ (t : List ℕ). (take 329 s ++ x ++ y) ++ t) (drop-of-length-le s {i = 457} (omega (arith, n)))
     ∙ append-nil (take 329 s ++ x ++ y)
+
+-- the columns behind a state's other words
+pub put-behind : (s w counts sets l : List ℕ) → s ≡ w → l ≡ take 329 s ++ counts ++ sets → l ≡ take 329 w ++ counts ++ sets
+put-behind s w counts sets l e f = f ∙ rw e refl

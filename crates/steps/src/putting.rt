@@ -46,8 +46,25 @@ fn put_entries_in(counts: &[u64], sets: &[u64], out: &mut [u64])
 }
 
 // The columns of the entries.
-pub(crate) fn put_entries(counts: &[u64; 64], sets: &[u64; 64], words: &mut [u64; 457])
+fn put_entries(counts: &[u64; 64], sets: &[u64; 64], words: &mut [u64; 457])
     ensures { λ _. ⌜ now (words .exit) ≡ take 329 (now (words .entry)) ++ now (counts .entry) ++ now (sets .entry) ⌝ }
 {
     put_entries_in(counts, sets, words);
+}
+
+// The report of member i, the point and the columns of the entries.
+pub(crate) fn put_step(
+    i: u32,
+    c: u64,
+    mask: u64,
+    p: u64,
+    counts: &[u64; 64],
+    sets: &[u64; 64],
+    words: &mut [u64; 457],
+)
+    requires { ⌜ (fits (now words) ≡ true) × (i < 64) ⌝ }
+    ensures { λ _. ⌜ now (words .exit) ≡ take 329 (wordsOf (withReport (windowIn (now (words .entry))) i c mask p)) ++ now (counts .entry) ++ now (sets .entry) ⌝ }
+{
+    put_report(i, c, mask, p, words);
+    put_entries(counts, sets, words);
 }
