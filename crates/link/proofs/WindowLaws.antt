@@ -8,14 +8,14 @@ use lib.Dec.{eqb}
 use lib.ListN.{length}
 use borrow.Author.Tests.{eq-eqb, ne-eqb}
 use Rattle.basics.proofs.BoolLaws.{either, and-left, and-right}
-use Rattle.window.specs.declared.state.Window.{Window}
-use Rattle.window.specs.declared.reporting.ReportAnswer.{ReportAnswer}
+use Rattle.window.specs.declared.reporting.Step.{Step}
 use Rattle.window.specs.Formed.{wellFormed}
 use Rattle.window.specs.Sending.{nextRefusal, sendRefusal, sendOf, withSent}
 use Rattle.window.specs.Reporting.{reportRefusal}
-use Rattle.window.specs.Answers.{reportOf, reportOut}
+use Rattle.window.specs.Answers.{stepOf, stepOut, withDownstream, reportOf, reportOut}
 use Rattle.window.proofs.SendLaws.{sent-small, point-small, send-next, send-17}
 use Rattle.window.proofs.RefusalLaws.{report-17}
+use Rattle.window.proofs.ReportLaws as answers
 use Rattle.words.specs.Taken.{wordAt, fits, windowIn, formedIn}
 use Rattle.words.specs.Put.{wordsOf}
 use Rattle.link.specs.Windows.{judgeNumber, sendNumber, sendWords, reportNumber, reportVerdicts, reportWords, reportBytes}
@@ -84,9 +84,6 @@ module _ (ws : List ℕ) (b : Bool) (e : b ≡ formedIn ws) (t : b ≡ true) whe
   well : wellFormed (windowIn ws) ≡ true
   well = and-right (fits ws) (wellFormed (windowIn ws)) both
 
-  pub well-known : (w : Window) → w ≡ windowIn ws → true ≡ wellFormed w
-  well-known w z = sym (ap wellFormed z ∙ well)
-
   pub sent-in-range : wordAt ws 135 ≤ 1000000000000
   unfolding windowIn
   sent-in-range = sent-small (windowIn ws) true (sym well) refl
@@ -115,30 +112,44 @@ module _ (ws : List ℕ) (b : Bool) (e : b ≡ formedIn ws) (t : b ≡ true) whe
     unfolding sendWords sendOf
     send-done-words o p n = p ∙ simp (← send-is, eq-eqb r 0 n, ← refusal-is)
 
-  module _ (w : Window) (z : w ≡ windowIn ws) where
-    module _ (i c mask room : ℕ) (a : ReportAnswer) (d : a ≡ reportOf w i c mask room) where
-      pub report-is : a .refusal ≡ reportNumber ws i c mask room
-      unfolding reportNumber
-      report-is = simp (fit-known, ← z, ← d)
+  pub well-told : true ≡ wellFormed (windowIn ws)
+  well-told = sym well
 
-      pub report-refused-words : (a .refusal ≡ 0 → ⊥) → ws ≡ reportWords ws i c mask room
-      unfolding reportWords
-      report-refused-words n = simp (← report-is, ne-eqb (a .refusal) 0 n)
+  -- a report, its refusal being known
+  module _ (i c mask room r : ℕ) (d : r ≡ reportRefusal (windowIn ws) i c mask room) where
+    pub report-refused : (r ≡ 0 → ⊥) → r ≡ reportNumber ws i c mask room
+    unfolding reportNumber
+    report-refused n = sym (simp (fit-known, ← answers.report-refused (windowIn ws) i c mask room r d n))
 
-      pub report-done : a .refusal ≡ 0 → 0 ≡ reportNumber ws i c mask room
-      report-done n = sym n ∙ report-is
+    pub report-refused-words : (r ≡ 0 → ⊥) → ws ≡ reportWords ws i c mask room
+    unfolding reportWords
+    report-refused-words n = simp (← report-refused n, ne-eqb r 0 n)
 
-      pub report-done-words : (o : List ℕ) → o ≡ wordsOf (a .window) → a .refusal ≡ 0 → o ≡ reportWords ws i c mask room
-      unfolding reportWords
-      report-done-words o p n = p ∙ simp (← report-is, eq-eqb (a .refusal) 0 n, ← z, ← d)
+    pub report-refused-answer : (r ≡ 0 → ⊥) → 0 ∷ [] ≡ reportVerdicts ws i c mask room ∷ []
+    unfolding reportVerdicts
+    report-refused-answer n = simp (fit-known, ← answers.report-refused (windowIn ws) i c mask room r d n)
 
-      verdicts-are : a .verdicts ≡ reportVerdicts ws i c mask room
-      unfolding reportVerdicts
-      verdicts-are = simp (fit-known, ← z, ← d)
+    abbrev step : Step
+    step = stepOf (windowIn ws .downstream) (windowIn ws .sent) i c mask
 
-      pub report-answer : a .verdicts ∷ [] ≡ reportVerdicts ws i c mask room ∷ []
-      report-answer = ap (λ (v : ℕ). v ∷ []) verdicts-are
+    pub report-done : r ≡ 0 → 0 ≡ reportNumber ws i c mask room
+    unfolding reportNumber
+    report-done n = simp (fit-known, ← answers.report-told (windowIn ws) i c mask room r d n step refl)
 
-    pub report-bytes : (i c mask : ℕ) (out o : List ℕ) → o ≡ reportOut w i c mask out → o ≡ reportBytes ws i c mask out
+    pub report-done-words : (o : List ℕ) → r ≡ 0 → o ≡ wordsOf (withDownstream (windowIn ws) (step .downstream)) → o ≡ reportWords ws i c mask room
+    unfolding reportWords
+    report-done-words o n e = e ∙ simp (← report-done n, ← answers.report-told (windowIn ws) i c mask room r d n step refl)
+
+    pub report-done-answer : (v : ℕ) → r ≡ 0 → v ≡ step .verdicts → v ∷ [] ≡ reportVerdicts ws i c mask room ∷ []
+    unfolding reportVerdicts
+    report-done-answer v n e = ap (λ (x : ℕ). x ∷ []) (e ∙ simp (fit-known, ← answers.report-told (windowIn ws) i c mask room r d n step refl))
+
+  -- and the bytes that were lent to it
+  module _ (i c mask r : ℕ) (out : List ℕ) (d : r ≡ reportRefusal (windowIn ws) i c mask (length out)) where
+    pub report-refused-bytes : (r ≡ 0 → ⊥) → out ≡ reportBytes ws i c mask out
     unfolding reportBytes
-    report-bytes i c mask out o p = p ∙ simp (fit-known, ← z)
+    report-refused-bytes n = simp fit-known (answers.report-kept (windowIn ws) i c mask r out d n)
+
+    pub report-done-bytes : (o : List ℕ) → r ≡ 0 → o ≡ stepOut (windowIn ws .sending) (windowIn ws .quantum) (windowIn ws .downstream) (windowIn ws .sent) i c mask out → o ≡ reportBytes ws i c mask out
+    unfolding reportBytes
+    report-done-bytes o n e = simp fit-known (answers.report-out (windowIn ws) i c mask r out d n o e)

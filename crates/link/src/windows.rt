@@ -72,12 +72,12 @@ pub extern "C" fn havdorlek_report(
         *answer = [0];
         return 17;
     }
-    let w = words::window_in(window);
-    let a = w.report_judged(true, member, number, mask, out);
-    *answer = [a.verdicts as u64];
-    if a.refusal != 0 {
-        return a.refusal;
+    let refusal = steps::report_refusal(window, member, number, mask, out.len());
+    if refusal != 0 {
+        *answer = [0];
+        return refusal;
     }
-    words::put_window(a.window, window);
+    let verdicts = steps::take_report(window, member, number, mask, out);
+    *answer = [verdicts as u64];
     0
 }
