@@ -1,7 +1,6 @@
 -- A well-formed state that a unit wrote to its disk is judged well formed when it is read back. Assumes nothing.
 use mathlib.Core.Path.{_≡_}
 use mathlib.Core.Bool.{true}
-use Prim.Native.Nat.{ℕ}
 use Rattle.window.specs.declared.state.Window.{Window}
 use Rattle.window.specs.Formed.{wellFormed}
 use Rattle.words.specs.Taken.{formedIn}

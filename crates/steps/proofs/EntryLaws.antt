@@ -1,23 +1,21 @@
 -- The columns of the entries are those of the state after each step. Assumes nothing.
 use mathlib.Core.Path.{_≡_, refl, ap, sym, _∙_}
-use mathlib.Core.Bool.{Bool, true, false, cond, not, _&&_, _||_}
+use mathlib.Core.Bool.{Bool, true, false, cond}
 use mathlib.Core.List.{List}
-use mathlib.Core.Logic.{inl, inr}
 use Prim.Native.Nat.{ℕ, _+_, _-_, _≤_, _<_}
 use native.Mathlib.Decide.{decLt}
 use native.Mathlib.Omega.{arith}
-use lib.Dec.{ltb, eqb}
+use lib.Dec.{ltb}
 use lib.ListN.{length, getD}
 use borrow.Author.Tests.{lt-ltb, le-ltb}
 use Rattle.basics.specs.Sums.{listBelow}
-use Rattle.basics.proofs.BoolLaws.{bool-cases}
 use Rattle.basics.proofs.SumLaws.{length-list, list-at, list-is}
-use Rattle.marks.specs.Masks.{isMarked, unmarkOf}
+use Rattle.marks.specs.Masks.{isMarked}
 use Rattle.downstream.specs.declared.state.Entry.{Entry}
 use Rattle.downstream.specs.State.{noEntry, offsetAt, countsOf, complaintsOf}
 use Rattle.judging.specs.Complaints.{entriesAfter, complainedEntry, complaintsAfter}
 use Rattle.judging.specs.Verdicts.{raisedEntry}
-use Rattle.judging.proofs.PlaceLaws.{entries-length, entries-place}
+use Rattle.judging.proofs.PlaceLaws.{entries-place}
 use Rattle.words.specs.Taken.{wordAt, entryIn, entriesIn}
 use Rattle.steps.specs.Columns.{countsAfter, heardAfter, raisedCounts, emptiedSets}
 
@@ -33,11 +31,11 @@ complaints-of : (b : Bool) (x y : Entry) → (cond b x y) .complaints ≡ cond b
 complaints-of true x y = refl
 complaints-of false x y = refl
 
-pub count-in : (l : List Entry) (j : ℕ) → j < 64 → getD (countsOf l) j 0 ≡ getD l j noEntry .count
+count-in : (l : List Entry) (j : ℕ) → j < 64 → getD (countsOf l) j 0 ≡ getD l j noEntry .count
 unfolding countsOf
 count-in l j h = list-at (λ x. getD l x noEntry .count) 0 64 j h
 
-pub complaints-in : (l : List Entry) (j : ℕ) → j < 64 → getD (complaintsOf l) j 0 ≡ getD l j noEntry .complaints
+complaints-in : (l : List Entry) (j : ℕ) → j < 64 → getD (complaintsOf l) j 0 ≡ getD l j noEntry .complaints
 unfolding complaintsOf
 complaints-in l j h = list-at (λ x. getD l x noEntry .complaints) 0 64 j h
 

@@ -1,6 +1,6 @@
 -- What a report says, and the point that it gives, from what the code knows. Assumes nothing.
-use mathlib.Core.Path.{_≡_, refl, ap, sym, _∙_}
-use mathlib.Core.Bool.{Bool, true}
+use mathlib.Core.Path.{_≡_, refl, sym, _∙_}
+use mathlib.Core.Bool.{Bool, true, _&&_}
 use mathlib.Core.List.{List}
 use Prim.Native.Nat.{ℕ, _≤_}
 use lib.Dec.{eqb}
@@ -8,13 +8,16 @@ use lib.ListN.{set}
 use borrow.Author.Tests.{eqb-true}
 use Rattle.marks.specs.Held.{highestOf}
 use Rattle.downstream.specs.declared.state.Cluster.{Cluster}
+use Rattle.downstream.specs.declared.state.Report.{Report}
 use Rattle.downstream.specs.State.{pointFrom}
 use Rattle.judging.specs.declared.complaints.Hearing.{Hearing}
+use Rattle.judging.specs.Complaints.{isAgain}
 use Rattle.words.specs.Taken.{wordAt, columnAt, clusterAt}
 
-pub hearing-told : (i c mask high : ℕ) (again : Bool) → high ≡ highestOf c mask
-    → _≡_ {A = Hearing} (record { member = i; number = c; mask = mask; highest = high; again = again }) (record { member = i; number = c; mask = mask; highest = highestOf c mask; again = again })
-hearing-told i c mask high again e = rw e refl
+pub hearing-told : (i c mask high : ℕ) (former report : Report) → high ≡ highestOf c mask → former ≡ report
+    → _≡_ {A = Hearing} (record { member = i; number = c; mask = mask; highest = high; again = former .heard && eqb (former .number) c })
+    (record { member = i; number = c; mask = mask; highest = highestOf c mask; again = isAgain report c })
+hearing-told i c mask high former report e f = rw (e, f) refl
 
 module _ (ws : List ℕ) (i c : ℕ) (cluster : Cluster) (ec : cluster ≡ clusterAt ws 67) where
   pub receiving-few : wordAt ws 67 ≤ 64 → cluster .members ≤ 64

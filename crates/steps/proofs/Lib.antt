@@ -5,5 +5,6 @@ pub mod HearLaws
 pub mod StoreLaws
 pub mod RefusalLaws
 pub mod VerdictLaws
+pub mod ReadyLaws
 pub mod StepLaws
 pub mod QuietLaws

@@ -1,6 +1,6 @@
 -- A report that changes no entry: nothing is collected, and nobody complains of anything. Assumes nothing.
 use mathlib.Core.Path.{_≡_, refl, ap, sym, _∙_}
-use mathlib.Core.Bool.{Bool, true, false, cond, not, _&&_, _||_}
+use mathlib.Core.Bool.{Bool, true, false, cond, not, _&&_}
 use mathlib.Core.List.{List}
 use mathlib.Core.Logic.{inl, inr}
 use Prim.Native.Nat.{ℕ, zero, suc, _+_, _-_, _≤_, _<_}
@@ -8,14 +8,12 @@ use native.Mathlib.Decide.{decLt}
 use native.Mathlib.Omega.{arith}
 use lib.Dec.{leb, ltb, eqb}
 use lib.ListN.{length, getD}
-use borrow.Author.Tests.{lt-ltb, le-ltb, le-leb, lt-leb, leb-true, eqb-true, not-true}
-use Rattle.basics.specs.Sums.{allBelow, listBelow}
+use borrow.Author.Tests.{lt-ltb, le-ltb, le-leb, lt-leb, eqb-true, not-true}
 use Rattle.basics.proofs.BoolLaws.{bool-cases, and-left, and-right, and-not-left, and-not-right, no-both}
-use Rattle.basics.proofs.SumLaws.{sum-zero, all-at, list-at, list-is}
+use Rattle.basics.proofs.SumLaws.{sum-zero, all-at, list-at}
 use Rattle.marks.specs.Masks.{isMarked, unmarkOf, withoutMark, reachOf, reachIn, setBelow}
 use Rattle.marks.specs.Held.{holdsOf, highestOf}
 use Rattle.marks.proofs.MaskLaws.{marked-none}
-use Rattle.marks.proofs.SetLaws.{set-cong}
 use Rattle.shares.specs.Shares.{shareOf}
 use Rattle.downstream.specs.declared.state.Entry.{Entry}
 use Rattle.downstream.specs.declared.state.Downstream.{Downstream}
@@ -26,14 +24,14 @@ use Rattle.judging.specs.declared.complaints.Hearing.{Hearing}
 use Rattle.judging.specs.Complaints.{entriesAfter, complainedEntry, complains, complaintsAfter}
 use Rattle.judging.specs.Verdicts.{isDue, dueAt, dueOf}
 use Rattle.judging.proofs.PlaceLaws.{place-offset}
-use Rattle.window.specs.Answers.{withDownstream, stepOf, stepOut}
+use Rattle.window.specs.Answers.{withDownstream, stepOut}
 use Rattle.words.specs.Taken.{wordAt, noneAbove, entryIn, entriesIn, windowIn}
 use Rattle.words.specs.Put.{wordsOf}
 use Rattle.words.proofs.FitLaws.{none-at}
 use Rattle.steps.specs.Stored.{withReport}
 use Rattle.steps.specs.Stepping.{Stepping, takenIn, stepIn}
 use Rattle.steps.proofs.EntryLaws.{same-list}
-use Rattle.steps.proofs.StepLaws.{withEntries, heard, after, entries-are, point-same, stepped, entries-stay, step-none, step-none-out}
+use Rattle.steps.proofs.StepLaws.{withEntries, after, entries-are, stepped, entries-stay, step-none, step-none-out}
 
 -- ---- a set that is empty stays so
 unmark-none : (i : ℕ) → unmarkOf 0 i ≡ 0

@@ -1,29 +1,23 @@
--- An accepted report in the words: what is known where it is taken, and that its columns are the state's. Assumes nothing.
+-- Where an accepted report is taken in the words: its columns are the state's. Assumes nothing.
 use mathlib.Core.Path.{_≡_, refl, ap, sym, _∙_}
-use mathlib.Core.Bool.{Bool, true, false, cond, _&&_}
+use mathlib.Core.Bool.{true, false, cond}
 use mathlib.Core.List.{List, _++_, append-assoc}
 use Prim.Native.Nat.{ℕ, _+_, _-_, _/_, _≤_, _<_}
-use lib.ListN.{length, getD, List·getD-eq-default}
-use native.Mathlib.Decide.{decLt}
+use lib.ListN.{length, getD}
 use native.Mathlib.Omega.{arith}
-use lib.Dec.{ltb}
 use lib.ListN.{length, getD, set, take, drop, length-append}
 use lib.Seq.{take-at}
 use borrow.Author.Tests.{le-ltb}
-use Rattle.basics.proofs.SumLaws.{length-list}
 use Rattle.marks.specs.Masks.{isMarked, setBelow}
 use Rattle.marks.specs.Held.{highestOf}
 use Rattle.marks.proofs.MaskLaws.{marked-none}
 use Rattle.marks.proofs.SetLaws.{marked-set}
 use Rattle.downstream.specs.declared.state.Cluster.{Cluster}
 use Rattle.downstream.specs.declared.state.Entry.{Entry}
-use Rattle.downstream.specs.declared.state.Report.{Report}
 use Rattle.downstream.specs.declared.state.Downstream.{Downstream}
-use Rattle.downstream.specs.State.{noEntry, offsetAt, sharesOf, placeAfter, reportAt, numbersOf, masksOf, countsOf, complaintsOf, pointFrom}
-use Rattle.downstream.proofs.FormedLaws.{kept-span, kept-cluster, cluster-few, span-limit, span-order}
+use Rattle.downstream.specs.State.{noEntry, offsetAt, placeAfter, reportAt, numbersOf, masksOf, countsOf, complaintsOf}
 use Rattle.judging.specs.declared.complaints.Hearing.{Hearing}
-use Rattle.judging.specs.Reports.{Accepting}
-use Rattle.judging.specs.Complaints.{entriesAfter, complainedEntry, isAgain, reportsAfter, pointAfter, takenOf, Taking}
+use Rattle.judging.specs.Complaints.{entriesAfter, complainedEntry, isAgain, takenOf, Taking}
 use Rattle.judging.specs.Verdicts.{isDue, dueAt, dueOf, raisedEntry, judgedOf, Judging}
 use Rattle.judging.proofs.StepLaws.{due-told}
 use Rattle.judging.proofs.Accepted.{may-take}
@@ -31,19 +25,17 @@ use Rattle.judging.proofs.Kept.{may-judge}
 use Rattle.judging.proofs.PlaceLaws.{entries-length, entries-place}
 use Rattle.window.specs.declared.state.Window.{Window}
 use Rattle.window.specs.Formed.{wellFormed}
-use Rattle.window.specs.Reporting.{Reportable}
 use Rattle.window.specs.Answers.{withDownstream, stepOf, stepOut}
 use Rattle.window.proofs.ReportLaws.{step-writing}
-use Rattle.verdicts.specs.Written.{verdictsTo, verdictsOf, verdictCount, Writing}
+use Rattle.verdicts.specs.Written.{verdictsOf, Writing}
 use Rattle.verdicts.proofs.WriteLaws.{none-count, none-put, counts-low, verdicts-long}
-use Rattle.words.specs.Taken.{wordAt, fits, columnAt, clusterAt, reportIn, reportsIn, entriesIn, windowIn}
-use Rattle.words.specs.Put.{clusterWords, reportWords, entryWords, wordsOf}
+use Rattle.words.specs.Taken.{wordAt, fits, columnAt, clusterAt, reportsIn, entriesIn, windowIn}
+use Rattle.words.specs.Put.{reportWords, entryWords, wordsOf}
 use Rattle.words.proofs.JudgeLaws.{numbers-column, masks-column}
 use Rattle.words.proofs.PutLaws.{length-reports}
 use Rattle.steps.specs.Columns.{countsAfter, heardAfter, small, raisedCounts, emptiedSets}
 use Rattle.steps.specs.Stored.{withReport}
 use Rattle.steps.specs.Stepping.{Stepping, takenIn, stepIn, verdictsIn}
-use Rattle.steps.proofs.RefusalLaws.{former-in}
 use Rattle.steps.proofs.StoreLaws.{front, length-front, places-in, numbers-set, masks-set}
 use Rattle.steps.proofs.EntryLaws.{heard-counts, heard-sets, judged-counts, judged-sets, judged-same}
 
@@ -63,55 +55,6 @@ entries-behind w l =
     let before : length (front w ++ reportWords (w .downstream .reports)) ≡ 329 = length-append (front w) (reportWords (w .downstream .reports)) ∙ omega (arith, length-front w, length-reports (w .downstream .reports)) in
     ap (λ (x : List ℕ). x ++ countsOf l ++ complaintsOf l) (take-at (front w ++ reportWords (w .downstream .reports)) (entryWords (w .downstream .entries)) 329 before)
     ∙ append-assoc (front w ++ reportWords (w .downstream .reports)) (countsOf l) (complaintsOf l)
-
--- ---- an accepted report
-module _ (ws : List ℕ) (i c mask room : ℕ) (a : Reportable (windowIn ws) i c mask room) where
-  abbrev w : Window
-  w = windowIn ws
-
-  abbrev d : Downstream
-  d = windowIn ws .downstream
-
-  taking : Taking d (w .sent) i c mask
-  taking = may-take d (w .sent) i c mask (a .accepting) (places-in ws)
-
-  pub ready-member : i < 64
-  ready-member = taking .member
-
-  pub ready-number : c ≤ 1000000000000
-  ready-number = taking .low
-
-  pub ready-few : wordAt ws 67 ≤ 64
-  unfolding windowIn clusterAt
-  ready-few = taking .few
-
-  pub ready-point : wordAt ws 136 ≤ 1000000000000
-  unfolding windowIn
-  ready-point = let k = kept-span d (w .sent) (a .accepting .kept) in omega (arith, span-limit (d .point) (w .sent) k, span-order (d .point) (w .sent) k)
-
-  -- the point that the numbers in the words give
-  pub point-is : (p : ℕ) → p ≡ pointFrom (clusterAt ws 67) (set (columnAt ws 137) i c) → p ≡ pointAfter d i c mask
-  unfolding windowIn
-  point-is p e = e ∙ ap (pointFrom (clusterAt ws 67)) (ap (λ (l : List ℕ). set l i c) (numbers-column ws) ∙ numbers-set (reportsIn ws) i c mask (places-in ws) ready-member)
-
-  -- and so it may be taken, heard as it was given
-  pub ready-stepping : fits ws ≡ true → (h : Hearing) (p : ℕ) → h ≡ record { member = i; number = c; mask = mask; highest = highestOf c mask; again = isAgain (reportIn ws i) c }
-      → p ≡ pointFrom (clusterAt ws 67) (set (columnAt ws 137) i c) → Stepping ws h p
-  ready-stepping f h p eh ep = rw eh (record { fit = f; formed = a .formed; accepting = a .accepting; highest = refl; again = refl; point = point-is p ep })
-
-  -- what was done with what was heard was done with what was given
-  module _ (h : Hearing) (eh : h ≡ record { member = i; number = c; mask = mask; highest = highestOf c mask; again = isAgain (reportIn ws i) c }) where
-    pub heard-member : h .member < 64
-    heard-member = rw eh ready-member
-
-    pub heard-verdicts : (v : ℕ) → v ≡ stepIn ws h .verdicts → v ≡ stepOf d (w .sent) i c mask .verdicts
-    heard-verdicts v e = e ∙ rw eh refl
-
-    pub heard-words : (l : List ℕ) → l ≡ wordsOf (withDownstream w (stepIn ws h .downstream)) → l ≡ wordsOf (withDownstream w (stepOf d (w .sent) i c mask .downstream))
-    heard-words l e = e ∙ rw eh refl
-
-    pub heard-out : (xs ys : List ℕ) → ys ≡ stepOut (w .sending) (w .quantum) d (w .sent) (h .member) (h .number) (h .mask) xs → ys ≡ stepOut (w .sending) (w .quantum) d (w .sent) i c mask xs
-    heard-out xs ys e = e ∙ rw eh refl
 
 -- ---- where it is taken
 module _ (ws : List ℕ) (h : Hearing) (p : ℕ) (k : Stepping ws h p) where
@@ -167,7 +110,8 @@ module _ (ws : List ℕ) (h : Hearing) (p : ℕ) (k : Stepping ws h p) where
 
   -- ---- the columns are those of the state in which the report is taken
   again-is : isAgain (reportAt (before .reports) (h .member)) (h .number) ≡ h .again
-  again-is = ap (λ (r : Report). isAgain r (h .number)) (former-in ws (h .member) step-member) ∙ sym (k .again)
+  unfolding windowIn
+  again-is = sym (k .again)
 
   abbrev pub heard : List Entry
   heard = entriesAfter (complainedEntry (h .member) (h .number) (h .mask) (h .again) p) p (wordAt ws 135 - p) (entriesIn ws)
@@ -180,17 +124,17 @@ module _ (ws : List ℕ) (h : Hearing) (p : ℕ) (k : Stepping ws h p) where
   unfolding takenOf
   point-same = sym (k .point)
 
-  pub step-counts : (counts : List ℕ) → counts ≡ countsAfter ws p (wordAt ws 135 - p) → counts ≡ countsOf (taken .entries)
+  step-counts : (counts : List ℕ) → counts ≡ countsAfter ws p (wordAt ws 135 - p) → counts ≡ countsOf (taken .entries)
   step-counts counts e = e ∙ heard-counts ws (h .member) (h .number) (h .mask) (h .again) p (wordAt ws 135 - p) ∙ ap countsOf (sym entries-are)
 
-  pub step-sets : (sets : List ℕ) → sets ≡ heardAfter ws (h .member) (h .number) (h .mask) (h .again) p (wordAt ws 135 - p) → sets ≡ complaintsOf (taken .entries)
+  step-sets : (sets : List ℕ) → sets ≡ heardAfter ws (h .member) (h .number) (h .mask) (h .again) p (wordAt ws 135 - p) → sets ≡ complaintsOf (taken .entries)
   step-sets sets e = e ∙ heard-sets ws (h .member) (h .number) (h .mask) (h .again) p (wordAt ws 135 - p) ∙ ap complaintsOf (sym entries-are)
 
-  pub step-numbers : (numbers : List ℕ) → numbers ≡ columnAt ws 137 → set numbers (h .member) (h .number) ≡ numbersOf (taken .reports)
+  step-numbers : (numbers : List ℕ) → numbers ≡ columnAt ws 137 → set numbers (h .member) (h .number) ≡ numbersOf (taken .reports)
   unfolding takenOf windowIn
   step-numbers numbers e = ap (λ (l : List ℕ). set l (h .member) (h .number)) (e ∙ numbers-column ws) ∙ numbers-set (reportsIn ws) (h .member) (h .number) (h .mask) (places-in ws) step-member
 
-  pub step-masks : (masks : List ℕ) → masks ≡ columnAt ws 201 → set masks (h .member) (h .mask) ≡ masksOf (taken .reports)
+  step-masks : (masks : List ℕ) → masks ≡ columnAt ws 201 → set masks (h .member) (h .mask) ≡ masksOf (taken .reports)
   unfolding takenOf windowIn
   step-masks masks e = ap (λ (l : List ℕ). set l (h .member) (h .mask)) (e ∙ masks-column ws) ∙ masks-set (reportsIn ws) (h .member) (h .number) (h .mask) (places-in ws) step-member
 

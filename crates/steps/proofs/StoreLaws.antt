@@ -7,20 +7,19 @@ use native.Mathlib.Nat.{zero-add, suc-add}
 use native.Mathlib.Decide.{ℕ-discrete}
 use native.Mathlib.Omega.{arith}
 use lib.ListN.{length, drop, take, set, getD, length-set, length-append, take-append-drop, drop-of-length-le}
-use lib.Seq.{getD-set-same, getD-set-other, set-append-left, take-at, length-take-le}
+use lib.Seq.{getD-set-same, getD-set-other, set-append-left, length-take-le}
 use borrow.Rule.Slice.PartMut.{putMid}
 use Rattle.basics.specs.Sums.{listBelow}
 use Rattle.basics.proofs.SumLaws.{length-list, list-at, list-is}
 use Rattle.basics.proofs.PartLaws.{put-next}
 use Rattle.downstream.specs.declared.state.Report.{Report}
-use Rattle.downstream.specs.declared.state.Entry.{Entry}
 use Rattle.downstream.specs.State.{noReport, reportAt, numbersOf, masksOf, countsOf, complaintsOf}
 use Rattle.judging.specs.Complaints.{reportsAfter}
 use Rattle.window.specs.declared.state.Window.{Window}
 use Rattle.words.specs.Taken.{fits, windowIn, reportsIn, reportIn}
 use Rattle.words.specs.Put.{sharesWords, clusterWords, heardOf, reportWords, entryWords, wordsOf}
 use Rattle.words.proofs.RoundTrip.{put-back}
-use Rattle.words.proofs.PutLaws.{length-cluster, length-numbers, length-masks, length-heard, length-reports}
+use Rattle.words.proofs.PutLaws.{length-cluster, length-numbers, length-masks, length-heard}
 use Rattle.words.proofs.ColumnLaws.{fill-done}
 use Rattle.steps.specs.Stored.{withReport}
 

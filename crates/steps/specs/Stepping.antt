@@ -6,7 +6,7 @@ use Prim.Native.Nat.{ℕ, _-_}
 use Rattle.marks.specs.Held.{highestOf}
 use Rattle.judging.specs.declared.complaints.Hearing.{Hearing}
 use Rattle.downstream.specs.declared.state.Downstream.{Downstream}
-use Rattle.downstream.specs.State.{sharesOf}
+use Rattle.downstream.specs.State.{sharesOf, reportAt}
 use Rattle.judging.specs.Reports.{Accepting}
 use Rattle.judging.specs.Complaints.{isAgain, pointAfter, takenOf}
 use Rattle.verdicts.specs.Written.{verdictsTo}
@@ -14,7 +14,7 @@ use Rattle.window.specs.declared.reporting.Step.{Step}
 use Rattle.window.specs.Formed.{wellFormed}
 use Rattle.window.specs.Answers.{stepOf}
 use Rattle.words.specs.Places.{sendingAt, receivingAt, quantumAt, sentAt}
-use Rattle.words.specs.Taken.{wordAt, fits, clusterAt, reportIn, windowIn}
+use Rattle.words.specs.Taken.{wordAt, fits, clusterAt, reportsIn, windowIn}
 
 -- the words fit and hold a well-formed state, the report is accepted, it is heard as it was given, and p is the point that it gives
 pub record Stepping (ws : List ℕ) (h : Hearing) (p : ℕ) : Type 0 where
@@ -22,7 +22,7 @@ pub record Stepping (ws : List ℕ) (h : Hearing) (p : ℕ) : Type 0 where
   pub formed : wellFormed (windowIn ws) ≡ true
   pub accepting : Accepting (windowIn ws .downstream) (windowIn ws .sent) (h .member) (h .number) (h .mask)
   pub highest : h .highest ≡ highestOf (h .number) (h .mask)
-  pub again : h .again ≡ isAgain (reportIn ws (h .member)) (h .number)
+  pub again : h .again ≡ isAgain (reportAt (reportsIn ws) (h .member)) (h .number)
   pub point : p ≡ pointAfter (windowIn ws .downstream) (h .member) (h .number) (h .mask)
 
 -- the report taken, before the verdicts; and the whole step

@@ -1,4 +1,5 @@
 // What a report says, and the point and the columns that it gives.
+use crate::refusing::former_in;
 use judging::Hearing;
 ghost use mathlib.Core.Path.{_≡_};
 ghost use mathlib.Core.Bool.{true, not, _&&_};
@@ -6,17 +7,17 @@ ghost use Prim.Native.Nat.{_≤_, _<_};
 ghost use lib.Dec.{eqb};
 ghost use lib.ListN.{set};
 ghost use Rattle.marks.specs.Held.{highestOf};
-ghost use Rattle.downstream.specs.State.{pointFrom};
+ghost use Rattle.downstream.specs.State.{reportAt, pointFrom};
 ghost use Rattle.judging.specs.Complaints.{isAgain};
-ghost use Rattle.words.specs.Taken.{wordAt, noneAbove, fits, columnAt, clusterAt, reportIn};
+ghost use Rattle.words.specs.Taken.{wordAt, noneAbove, fits, columnAt, clusterAt, reportsIn};
 
 // What the report of member i says.
 pub(crate) fn hearing_of(words: &[u64; 457], i: u32, c: u64, mask: u64) -> Hearing
-    requires { ⌜ (i < 64) × (c ≤ 1000000000000) ⌝ }
-    ensures { λ h. ⌜ h ≡ record { member = i; number = c; mask = mask; highest = highestOf c mask; again = isAgain (reportIn (now (words .entry)) i) c } ⌝ }
+    requires { ⌜ c ≤ 1000000000000 ⌝ }
+    ensures { λ h. ⌜ h ≡ record { member = i; number = c; mask = mask; highest = highestOf c mask; again = isAgain (reportAt (reportsIn (now (words .entry))) i) c } ⌝ }
 {
-    let at = i as usize;
-    let again = (words[265 + at] == 1) & (words[137 + at] == c);
+    let former = former_in(words, i);
+    let again = former.heard & (former.number == c);
     let highest = marks::highest(c, mask);
     Hearing {
         member: i,

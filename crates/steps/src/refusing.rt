@@ -2,9 +2,30 @@
 use downstream::Report;
 ghost use mathlib.Core.Path.{_≡_};
 ghost use mathlib.Core.Bool.{true};
+ghost use Rattle.downstream.specs.State.{reportAt};
 ghost use Rattle.window.specs.Formed.{wellFormed};
 ghost use Rattle.window.specs.Reporting.{reportRefusal};
-ghost use Rattle.words.specs.Taken.{windowIn};
+ghost use Rattle.words.specs.Taken.{reportsIn, windowIn};
+
+// The latest report of member i; an all-zero one where there is no such place.
+pub(crate) fn former_in(words: &[u64; 457], i: u32) -> Report
+    ensures { λ r. ⌜ r ≡ reportAt (reportsIn (now (words .entry))) i ⌝ }
+{
+    let at = i as usize;
+    if at < 64 {
+        Report {
+            number: words[137 + at],
+            mask: words[201 + at],
+            heard: words[265 + at] == 1,
+        }
+    } else {
+        Report {
+            number: 0,
+            mask: 0,
+            heard: false,
+        }
+    }
+}
 
 // The refusal that a report gets of a well-formed state: 5, 8, 12, 11, 13 in this order, 0 for none.
 // inner: for a caller that has judged the words.
@@ -12,26 +33,6 @@ pub fn report_refusal(words: &[u64; 457], i: u32, c: u64, mask: u64, room: usize
     requires { ⌜ true ≡ wellFormed (windowIn (now words)) ⌝ }
     ensures { λ r. ⌜ r ≡ reportRefusal (windowIn (now (words .entry))) i c mask room ⌝ }
 {
-    if room < 1_024 {
-        return 5;
-    }
-    if words[67] <= i as u64 {
-        return 8;
-    }
-    if marks::is_marked(mask, 0) {
-        return 12;
-    }
-    if !marks::none_above(c, mask, words[135]) {
-        return 11;
-    }
-    let at = i as usize;
-    let former = Report {
-        number: words[137 + at],
-        mask: words[201 + at],
-        heard: words[265 + at] == 1,
-    };
-    if !judging::keeps_all(former, c, mask) {
-        return 13;
-    }
-    0
+    let former = former_in(words, i);
+    window::given_refusal(words[67], words[135], former, i, c, mask, room)
 }

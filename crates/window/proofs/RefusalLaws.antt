@@ -1,62 +1,38 @@
 -- The refusals of a report, from what the code knows where it answers, and what is known where none is left. Assumes nothing.
 use mathlib.Core.Path.{_≡_, sym, _∙_}
 use mathlib.Core.Bool.{Bool, true, false, not}
-use Prim.Native.Nat.{ℕ, _≤_, _<_}
+use mathlib.Core.List.{List}
+use Prim.Native.Nat.{ℕ, _≤_}
 use native.Mathlib.Omega.{arith}
 use lib.Dec.{leb, ltb, lit<}
-use borrow.Author.Tests.{le-leb, lt-leb, lt-ltb, le-ltb, leb-true, ltb-true, not-true}
+use lib.ListN.{length, List·getD-eq-default}
+use borrow.Author.Tests.{leb-true, ltb-true, not-true}
 use Rattle.basics.specs.Checks.{firstFailing}
 use Rattle.basics.proofs.CheckLaws.{first-passed, later-passed}
 use Rattle.marks.specs.Masks.{isMarked}
 use Rattle.marks.specs.Held.{noneAbove}
-use Rattle.downstream.specs.State.{reportAt}
+use Rattle.downstream.specs.declared.state.Report.{Report}
+use Rattle.downstream.specs.State.{noReport, reportAt}
 use Rattle.judging.specs.Reports.{keepsAll}
-use Rattle.downstream.proofs.FormedLaws.{kept-cluster, cluster-few}
 use Rattle.window.specs.declared.state.Window.{Window}
 use Rattle.window.specs.Formed.{wellFormed}
-use Rattle.window.specs.Reporting.{reportRefusal, Reportable}
+use Rattle.window.specs.Reporting.{reportRefusal, givenRefusal, Reportable}
 use Rattle.window.proofs.FormedLaws.{formed-down}
 
--- ---- the member has a place
-pub member-place : (w : Window) (b : Bool) (i : ℕ) → b ≡ wellFormed w → b ≡ true → i < w .downstream .cluster .members → i < 64
-member-place w b i e t l = omega (arith, cluster-few (w .downstream .cluster) (kept-cluster (w .downstream) (w .sent) (formed-down w (sym e ∙ t))))
+-- where there is no place there is an all-zero report
+pub no-place : (reports : List Report) (i : ℕ) → length reports ≡ 64 → 64 ≤ i → noReport ≡ reportAt reports i
+no-place reports i n l = sym (List·getD-eq-default reports noReport (omega arith))
 
--- ---- the refusals of a report, case by case
+-- ---- the refusals of a report, once it is known whether the state is well formed
 module _ (w : Window) (i c mask room : ℕ) (f : Bool) (ef : f ≡ wellFormed w) where
   pub report-17 : f ≡ false → 17 ≡ reportRefusal w i c mask room
   unfolding reportRefusal firstFailing
   report-17 h = simp (sym ef ∙ h)
 
-  module _ (tf : f ≡ true) where
-    pub report-5 : room < 1024 → 5 ≡ reportRefusal w i c mask room
-    unfolding reportRefusal firstFailing
-    report-5 h = simp (sym ef ∙ tf, lt-leb 1024 room h)
-
-    module _ (enough : 1024 ≤ room) where
-      pub report-8 : w .downstream .cluster .members ≤ i → 8 ≡ reportRefusal w i c mask room
-      unfolding reportRefusal firstFailing
-      report-8 h = simp (sym ef ∙ tf, le-leb 1024 room enough, le-ltb i (w .downstream .cluster .members) h)
-
-      module _ (inside : i < w .downstream .cluster .members) (b : Bool) (eb : b ≡ isMarked mask 0) where
-        pub report-12 : b ≡ true → 12 ≡ reportRefusal w i c mask room
-        unfolding reportRefusal firstFailing
-        report-12 h = simp (sym ef ∙ tf, le-leb 1024 room enough, lt-ltb i (w .downstream .cluster .members) inside, sym eb ∙ h)
-
-        module _ (tb : b ≡ false) (a : Bool) (ea : a ≡ noneAbove c mask (w .sent)) where
-          pub report-11 : a ≡ false → 11 ≡ reportRefusal w i c mask room
-          unfolding reportRefusal firstFailing
-          report-11 h = simp (sym ef ∙ tf, le-leb 1024 room enough, lt-ltb i (w .downstream .cluster .members) inside, sym eb ∙ tb, sym ea ∙ h)
-
-          module _ (ta : a ≡ true) (k : Bool) (ek : k ≡ keepsAll (reportAt (w .downstream .reports) i) c mask) where
-            pub report-13 : k ≡ false → 13 ≡ reportRefusal w i c mask room
-            unfolding reportRefusal firstFailing
-            report-13 h =
-                simp (sym ef ∙ tf, le-leb 1024 room enough, lt-ltb i (w .downstream .cluster .members) inside, sym eb ∙ tb, sym ea ∙ ta, sym ek ∙ h)
-
-            pub report-0 : k ≡ true → 0 ≡ reportRefusal w i c mask room
-            unfolding reportRefusal firstFailing
-            report-0 h =
-                simp (sym ef ∙ tf, le-leb 1024 room enough, lt-ltb i (w .downstream .cluster .members) inside, sym eb ∙ tb, sym ea ∙ ta, sym ek ∙ h)
+  pub report-given : f ≡ true → (former : Report) (g : ℕ) → former ≡ reportAt (w .downstream .reports) i → g ≡ givenRefusal (w .downstream .cluster .members) (w .sent) former i c mask room
+      → g ≡ reportRefusal w i c mask room
+  unfolding reportRefusal givenRefusal firstFailing
+  report-given h former g er eg = eg ∙ rw er (simp (sym ef ∙ h))
 
 -- ---- none of them
 pub accepts : (w : Window) (i c mask room : ℕ) → reportRefusal w i c mask room ≡ 0 → Reportable w i c mask room

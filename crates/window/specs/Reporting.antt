@@ -7,6 +7,7 @@ use lib.Dec.{leb, ltb}
 use Rattle.basics.specs.Checks.{_else_, firstFailing}
 use Rattle.marks.specs.Masks.{isMarked}
 use Rattle.marks.specs.Held.{noneAbove}
+use Rattle.downstream.specs.declared.state.Report.{Report}
 use Rattle.downstream.specs.State.{reportAt}
 use Rattle.judging.specs.Reports.{keepsAll, Accepting}
 use Rattle.window.specs.declared.state.Window.{Window}
@@ -22,6 +23,17 @@ reportRefusal w i c mask room =
     ∷ (not (isMarked mask 0) else 12)
     ∷ (noneAbove c mask (w .sent) else 11)
     ∷ (keepsAll (reportAt (w .downstream .reports) i) c mask else 13)
+    ∷ [])
+
+-- the same of a well-formed state: what is asked of the report itself, its member's former one being at hand
+unfoldable pub givenRefusal : ℕ → ℕ → Report → ℕ → ℕ → ℕ → ℕ → ℕ
+givenRefusal members s former i c mask room =
+    firstFailing (
+    (leb 1_024 room else 5)
+    ∷ (ltb i members else 8)
+    ∷ (not (isMarked mask 0) else 12)
+    ∷ (noneAbove c mask s else 11)
+    ∷ (keepsAll former c mask else 13)
     ∷ [])
 
 -- what is known where a report is accepted

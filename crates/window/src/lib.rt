@@ -1,6 +1,7 @@
 // The sending window: opening, sending and reports, on a state that may hold any values at all.
 mod formed;
 mod opening;
+mod refusing;
 mod reporting;
 mod sending;
 mod state;
@@ -8,6 +9,7 @@ mod state;
 pub use opening::OpenAnswer;
 pub use opening::cluster_from;
 pub use opening::no_cluster;
+pub use refusing::given_refusal;
 pub use reporting::ReportAnswer;
 pub use sending::SendAnswer;
 pub use sending::next_refusal;

@@ -1,10 +1,12 @@
 // Reports.
+use crate::refusing::given_refusal;
 use crate::state::Window;
 use downstream::Cluster;
 use downstream::Downstream;
+use downstream::Report;
 ghost use mathlib.Core.Path.{_≡_};
 ghost use lib.ListN.{length};
-ghost use Rattle.window.specs.Formed.{wellFormed};
+ghost use Rattle.downstream.specs.State.{reportAt};
 ghost use Rattle.window.specs.Reporting.{reportRefusal, Reportable};
 ghost use Rattle.window.specs.Answers.{stepOf, stepOut, reportOf, reportOut};
 
@@ -15,33 +17,34 @@ pub struct ReportAnswer {
     pub window: Window,
 }
 
+// The latest report of member i; an all-zero one where there is no such place.
+fn former_of(reports: [Report; 64], i: u32) -> Report
+    ensures { λ r. ⌜ r ≡ reportAt reports i ⌝ }
+{
+    let at = i as usize;
+    if at < 64 {
+        reports[at]
+    } else {
+        Report {
+            number: 0,
+            mask: 0,
+            heard: false,
+        }
+    }
+}
+
 // The refusal that a report gets: 17, 5, 8, 12, 11, 13 in this order, 0 for none.
-fn report_refusal(w: Window, formed: bool, i: u32, c: u64, mask: u64, room: usize) -> u32
-    requires { ⌜ formed ≡ wellFormed w ⌝ }
+fn report_refusal(w: Window, i: u32, c: u64, mask: u64, room: usize) -> u32
     ensures { λ r. ⌜ r ≡ reportRefusal w i c mask room ⌝ }
 {
-    if !formed {
+    if !w.well_formed() {
         return 17;
     }
-    if room < 1_024 {
-        return 5;
-    }
-    let members = w.downstream.cluster.members;
-    if members <= i {
-        return 8;
-    }
-    if marks::is_marked(mask, 0) {
-        return 12;
-    }
-    if !marks::none_above(c, mask, w.sent) {
-        return 11;
-    }
-    let at = i as usize;
-    let reports = w.downstream.reports;
-    if !judging::keeps_all(reports[at], c, mask) {
-        return 13;
-    }
-    0
+    let d = w.downstream;
+    let members = d.cluster.members as u64;
+    let reports = d.reports;
+    let former = former_of(reports, i);
+    given_refusal(members, w.sent, former, i, c, mask, room)
 }
 
 // What an accepted report does to all that belongs to the receiving cluster.
@@ -79,24 +82,7 @@ impl Window {
     pub fn report(mut self, member: u32, number: u64, mask: u64, out: &mut [u8]) -> ReportAnswer
         ensures { λ r. ⌜ (r ≡ reportOf self member number mask (length (now (out .entry)))) × (now (out .exit) ≡ reportOut self member number mask (now (out .entry))) ⌝ }
     {
-        let formed = self.well_formed();
-        self.report_judged(formed, member, number, mask, out)
-    }
-
-    // The same, the state being judged already.
-    // inner: for a caller that has judged the state where it lies.
-    pub fn report_judged(
-        mut self,
-        formed: bool,
-        member: u32,
-        number: u64,
-        mask: u64,
-        out: &mut [u8],
-    ) -> ReportAnswer
-        requires { ⌜ formed ≡ wellFormed self ⌝ }
-        ensures { λ r. ⌜ (r ≡ reportOf self member number mask (length (now (out .entry)))) × (now (out .exit) ≡ reportOut self member number mask (now (out .entry))) ⌝ }
-    {
-        let refusal = report_refusal(self, formed, member, number, mask, out.len());
+        let refusal = report_refusal(self, member, number, mask, out.len());
         if refusal != 0 {
             return ReportAnswer {
                 refusal,

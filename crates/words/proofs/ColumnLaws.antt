@@ -1,11 +1,9 @@
 -- A column of 64 places that is filled from the front. Assumes nothing.
-use mathlib.Core.Path.{_≡_, refl, ap, sym, _∙_}
-use mathlib.Core.Bool.{Bool, true, false, cond}
+use mathlib.Core.Path.{_≡_, ap, sym, _∙_}
 use mathlib.Core.List.{List, _++_, append-nil}
 use Prim.Native.Nat.{ℕ, _+_, _≤_, _<_}
 use native.Mathlib.Omega.{arith}
 use lib.ListN.{length, drop, set, drop-of-length-le}
-use mir.Val.{boolByte}
 use Rattle.basics.specs.Sums.{listBelow}
 use Rattle.basics.proofs.SumLaws.{list-turn}
 
@@ -17,8 +15,3 @@ module _ {A : Type 0} (f : ℕ → A) where
   fill-done i l o e n a b =
       let z : i ≡ 64 = omega arith in
       e ∙ ap (λ (t : List A). listBelow i f ++ t) (drop-of-length-le o {i = i} (omega arith)) ∙ append-nil (listBelow i f) ∙ ap (λ (j : ℕ). listBelow j f) z
-
--- true is 1 and false is 0
-pub as-number : (t : Bool) → boolByte t ≡ cond t 1 0
-as-number true = refl
-as-number false = refl

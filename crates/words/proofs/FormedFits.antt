@@ -2,23 +2,21 @@
 use mathlib.Core.Path.{_≡_, refl, ap, sym, subst, _∙_}
 use mathlib.Core.Bool.{Bool, true, false, cond, _&&_, _||_}
 use mathlib.Core.List.{List}
-use Prim.Native.Nat.{ℕ, _+_, _-_, _*_, _≤_, _<_}
+use Prim.Native.Nat.{ℕ, _+_, _-_, _≤_, _<_}
 use native.Mathlib.Nat.{zero-add, add-zero}
 use native.Mathlib.Decide.{decLt}
 use native.Mathlib.Omega.{arith}
 use lib.Dec.{leb, ltb, eqb}
-use lib.ListN.{length, getD, take, length-take}
+use lib.ListN.{length, getD, length-take}
 use lib.Seq.{getD-take}
 use borrow.Author.Tests.{le-leb, lt-leb, le-ltb, leb-true, eqb-true}
-use Rattle.basics.specs.Sums.{allBelow, listBelow}
+use Rattle.basics.specs.Sums.{listBelow}
 use Rattle.basics.specs.Ranges.{isQuantum}
 use Rattle.basics.proofs.SumLaws.{all-at, all-of, list-at}
 use Rattle.basics.proofs.BoolLaws.{and-both, and-left, and-right}
-use Rattle.shares.specs.Shares.{totalOf}
 use Rattle.shares.specs.Cluster.{Accepted, clusterRefusal}
 use Rattle.shares.proofs.ClusterLaws.{accepts, total-small}
 use Rattle.downstream.specs.declared.state.Cluster.{Cluster}
-use Rattle.downstream.specs.declared.state.Report.{Report}
 use Rattle.downstream.specs.declared.state.Entry.{Entry}
 use Rattle.downstream.specs.declared.state.Downstream.{Downstream}
 use Rattle.downstream.specs.State.{noEntry, sharesOf, placeAfter, offsetAt, reportAt, numbersOf, masksOf, countsOf, complaintsOf}
@@ -27,7 +25,7 @@ use Rattle.downstream.proofs.FormedLaws.{cluster-few, cluster-accepted, kept-cl
 use Rattle.window.specs.declared.state.Window.{Window}
 use Rattle.window.specs.Formed.{wellFormed}
 use Rattle.window.proofs.FormedLaws.{formed-down, formed-sending, formed-quantum}
-use Rattle.words.specs.Taken.{wordAt, noneAbove, fits, columnAt, windowIn}
+use Rattle.words.specs.Taken.{wordAt, noneAbove, fits, columnAt}
 use Rattle.words.specs.Put.{sharesWords, clusterWords, heardOf, reportWords, entryWords, wordsOf}
 use Rattle.words.proofs.RoundTrip.{Placed}
 

@@ -69,29 +69,11 @@ length-entries : (l : List Entry) → length (entryWords l) ≡ 128
 unfolding entryWords
 length-entries l = length-append (countsOf l) (complaintsOf l) ∙ omega (arith, length-resent l, length-complaints l)
 
-pub entries-put : (l : List Entry) (s a b : List ℕ) → length s ≡ 128 → a ≡ countsOf l → b ≡ complaintsOf l → putMid 64 64 (putMid 0 64 s a) b ≡ entryWords l
-unfolding entryWords
-entries-put l s a b n e f =
-    let la : length a ≡ 64 = ap length e ∙ length-resent l in
-    let lb : length b ≡ 64 = ap length f ∙ length-complaints l in
-    more a b s (putMid 0 64 s a) 64 64 (put-next [] a s 0 64 refl la) la lb ∙ full (a ++ b) s 128 n ∙ rw (e, f)
-
 pub length-reports : (l : List Report) → length (reportWords l) ≡ 192
 unfolding reportWords
 length-reports l =
     length-append (numbersOf l ++ masksOf l) (heardOf l)
     ∙ omega (arith, length-append (numbersOf l) (masksOf l), length-numbers l, length-masks l, length-heard l)
-
-pub reports-put : (l : List Report) (s a b c : List ℕ) → length s ≡ 192 → a ≡ numbersOf l → b ≡ masksOf l → c ≡ heardOf l → putMid 128 64 (putMid 64 64 (putMid 0 64 s a) b) c ≡ reportWords l
-unfolding reportWords
-reports-put l s a b c n e f g =
-    let la : length a ≡ 64 = ap length e ∙ length-numbers l in
-    let lb : length b ≡ 64 = ap length f ∙ length-masks l in
-    let lc : length c ≡ 64 = ap length g ∙ length-heard l in
-    let lab : length (a ++ b) ≡ 128 = length-append a b ∙ omega (arith, la, lb) in
-    let one : putMid 0 64 s a ≡ a ++ drop 64 s = put-next [] a s 0 64 refl la in
-    let two : putMid 64 64 (putMid 0 64 s a) b ≡ (a ++ b) ++ drop 128 s = more a b s (putMid 0 64 s a) 64 64 one la lb in
-    more (a ++ b) c s (putMid 64 64 (putMid 0 64 s a) b) 128 64 two lab lc ∙ full (a ++ b ++ c) s 192 n ∙ rw (e, f, g)
 
 pub window-put : (w : Window) (s a b c d e : List ℕ) → length s ≡ 457 → a ≡ clusterWords (w .sending) → b ≡ clusterWords (w .downstream .cluster)
     → c ≡ w .quantum ∷ w .sent ∷ w .downstream .point ∷ [] → d ≡ reportWords (w .downstream .reports) → e ≡ entryWords (w .downstream .entries)

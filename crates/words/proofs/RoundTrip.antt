@@ -2,7 +2,7 @@
 use mathlib.Core.Path.{_≡_, refl, ap, sym, _∙_}
 use mathlib.Core.Bool.{Bool, true, false, cond}
 use mathlib.Core.List.{List, [], _∷_, _++_}
-use Prim.Native.Nat.{ℕ, _+_, _≤_, _<_}
+use Prim.Native.Nat.{ℕ, _+_, _≤_}
 use native.Mathlib.Decide.{decLt}
 use native.Mathlib.Omega.{arith}
 use lib.ListN.{length, getD, set}
@@ -15,7 +15,7 @@ use Rattle.downstream.specs.declared.state.Entry.{Entry}
 use Rattle.downstream.specs.State.{noReport, noEntry, reportAt, numbersOf, masksOf, countsOf, complaintsOf}
 use Rattle.window.specs.declared.state.Window.{Window}
 use Rattle.window.specs.Sending.{withSent}
-use Rattle.words.specs.Taken.{wordAt, fits, columnAt, clusterAt, reportIn, entryIn, reportsIn, entriesIn, windowIn}
+use Rattle.words.specs.Taken.{wordAt, fits, columnAt, clusterAt, reportIn, reportsIn, entriesIn, windowIn}
 use Rattle.words.proofs.FitLaws.{flag-at}
 use Rattle.words.specs.Put.{sharesWords, clusterWords, heardOf, reportWords, entryWords, wordsOf}
 

@@ -5,7 +5,6 @@ use mathlib.Core.List.{List}
 use Prim.Native.Nat.{ℕ}
 use Rattle.basics.proofs.Unique.{one-answer}
 use Rattle.downstream.specs.declared.state.Cluster.{Cluster}
-use Rattle.window.specs.declared.state.Window.{Window}
 use Rattle.window.specs.Opening.{windowFrom}
 use Rattle.window.specs.Sending.{withSent}
 use Rattle.words.specs.Taken.{windowIn, formedIn}
@@ -13,12 +12,6 @@ use Rattle.words.specs.Put.{wordsOf}
 
 pub one-formed : (ws : List ℕ) (a b : Bool) → a ≡ formedIn ws → b ≡ formedIn ws → a ≡ b
 one-formed ws a b e f = one-answer e f
-
-pub one-taken : (ws : List ℕ) (a b : Window) → a ≡ windowIn ws → b ≡ windowIn ws → a ≡ b
-one-taken ws a b e f = one-answer e f
-
-pub one-put : (w : Window) (o o′ : List ℕ) → o ≡ wordsOf w → o′ ≡ wordsOf w → o ≡ o′
-one-put w o o′ e f = one-answer e f
 
 pub one-opened-put : (sending receiving : Cluster) (q : ℕ) (o o′ : List ℕ) → o ≡ wordsOf (windowFrom sending receiving q) → o′ ≡ wordsOf (windowFrom sending receiving q) → o ≡ o′
 one-opened-put sending receiving q o o′ e f = one-answer e f

@@ -8,8 +8,6 @@ pub use judging::column_at;
 pub use judging::formed;
 pub use opening::put_opened;
 pub use putting::put_sent;
-pub use putting::put_window;
 pub use taking::cluster_at;
 pub use taking::none_above;
 pub use taking::quantum_in;
-pub use taking::window_in;

@@ -1,13 +1,9 @@
-// Taking a state out of words. Any words at all may stand there: which are too large for their fields is asked first.
+// Taking parts of a state out of words. Any words at all may stand there: which are too large for their fields is asked first.
 use downstream::Cluster;
-use downstream::Downstream;
-use downstream::Entry;
-use downstream::Report;
-use window::Window;
 ghost use mathlib.Core.Path.{_≡_};
 ghost use mathlib.Core.Bool.{true};
 ghost use Prim.Native.Nat.{_+_, _≤_};
-ghost use Rattle.words.specs.Taken.{wordAt, noneAbove, fits, columnAt, clusterAt, reportsIn, entriesIn, windowIn};
+ghost use Rattle.words.specs.Taken.{wordAt, noneAbove, fits, columnAt, clusterAt};
 
 // Whether n words from a place on are at most so large.
 // inner: for places among the 457.
@@ -67,46 +63,6 @@ pub fn cluster_at(words: &[u64; 457], at: usize) -> Cluster
     }
 }
 
-fn reports_in(words: &[u64; 457]) -> [Report; 64]
-    ensures { λ r. ⌜ r ≡ reportsIn (now (words .entry)) ⌝ }
-{
-    let mut reports = [Report {
-        number: 0,
-        mask: 0,
-        heard: false,
-    }; 64];
-    let mut i: usize = 0;
-    while i < 64 {
-        reports[i] = Report {
-            number: words[137 + i],
-            mask: words[201 + i],
-            heard: words[265 + i] == 1,
-        };
-        i += 1;
-    }
-    reports
-}
-
-fn entries_in(words: &[u64; 457]) -> [Entry; 64]
-    requires { ⌜ fits (now words) ≡ true ⌝ }
-    ensures { λ r. ⌜ r ≡ entriesIn (now (words .entry)) ⌝ }
-{
-    let mut entries = [Entry {
-        count: 0,
-        complaints: 0,
-    }; 64];
-    let mut i: usize = 0;
-    while i < 64 {
-        let count = words[329 + i];
-        entries[i] = Entry {
-            count: count as u32,
-            complaints: words[393 + i],
-        };
-        i += 1;
-    }
-    entries
-}
-
 // The quantum.
 // inner: for a caller that has asked whether the words fit.
 pub fn quantum_in(words: &[u64; 457]) -> u32
@@ -114,29 +70,4 @@ pub fn quantum_in(words: &[u64; 457]) -> u32
     ensures { λ r. ⌜ r ≡ wordAt (now (words .entry)) 134 ⌝ }
 {
     words[134] as u32
-}
-
-// The state that stands in the words.
-// inner: for a caller that has asked whether the words fit.
-pub fn window_in(words: &[u64; 457]) -> Window
-    requires { ⌜ fits (now words) ≡ true ⌝ }
-    ensures { λ r. ⌜ r ≡ windowIn (now (words .entry)) ⌝ }
-{
-    let sending = cluster_at(words, 0);
-    let cluster = cluster_at(words, 67);
-    let reports = reports_in(words);
-    let entries = entries_in(words);
-    let quantum = quantum_in(words);
-    let downstream = Downstream {
-        cluster,
-        point: words[136],
-        reports,
-        entries,
-    };
-    Window {
-        sending,
-        quantum,
-        sent: words[135],
-        downstream,
-    }
 }

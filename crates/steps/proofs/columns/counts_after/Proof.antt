@@ -2,7 +2,7 @@
 use Prim.Native.Nat.{_≤_, _-_, _+_}
 use mathlib.Core.Path.{_≡_, refl}
 use mathlib.Core.List.{_++_}
-use lib.ListN.{length, drop, replicate, getD}
+use lib.ListN.{length, drop, replicate}
 use Rattle.basics.specs.Sums.{listBelow}
 use Rattle.basics.proofs.SumLaws.{list-start}
 use Rattle.words.proofs.ColumnLaws.{fill-turn, fill-done}

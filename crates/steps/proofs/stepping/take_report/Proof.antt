@@ -1,12 +1,12 @@
 -- A quiet report changes itself and the point alone; any other is judged with the open messages.
-use Rattle.steps.proofs.StepLaws.{ready-member, ready-number, ready-few, ready-point, point-is, ready-stepping, heard-verdicts, heard-words, heard-out, heard-member}
+use Rattle.steps.proofs.ReadyLaws.{ready-member, ready-number, ready-few, ready-point, ready-stepping, heard-verdicts, heard-words, heard-out, heard-member}
 use Rattle.steps.proofs.QuietLaws.{quiet-none, quiet-out, quiet-words}
 use borrow.Author.Needs.{needs}
 use Rattle.steps.proofs.stepping.take_report.Statement.{statement}
 use Rattle.steps.proofs.stepping.take_report.Tie as tie
 
 hearing-of-requires : tie.Need-hearing-of-requires
-hearing-of-requires c κs = (search (ready-member, needs), search (ready-number, needs))
+hearing-of-requires c κs = search (ready-number, needs)
 
 point-after-requires : tie.Need-point-after-requires
 point-after-requires c κs = (search (ready-member, needs), search needs, search (ready-few, needs), search (ready-point, needs))

@@ -1,8 +1,8 @@
 -- A refusal changes nothing; an accepted report goes through its steps.
 use Rattle.window.proofs.ReportLaws.{report-refused, report-kept, report-ready, report-told, report-out}
 use borrow.Author.Needs.{needs}
-use Rattle.window.proofs.state.Window.report_judged.Statement.{statement}
-use Rattle.window.proofs.state.Window.report_judged.Tie as tie
+use Rattle.window.proofs.state.Window.report.Statement.{statement}
+use Rattle.window.proofs.state.Window.report.Tie as tie
 
 report-refusal-requires : tie.Need-report-refusal-requires
 report-refusal-requires c κs = search needs
@@ -19,6 +19,6 @@ same-length c = search needs
 returns-2 : tie.Need-returns-2
 returns-2 c = (search report-told, search report-out)
 
-pub report-judged-spec : {M : Type 1} → statement M
-report-judged-spec =
+pub report-spec : {M : Type 1} → statement M
+report-spec =
     tie.close (tie.spec report-refusal-requires returns step-of-requires same-length returns-2)
