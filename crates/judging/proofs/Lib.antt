@@ -2,6 +2,9 @@
 pub mod ReportLaws
 pub mod PlaceLaws
 pub mod ComplaintLaws
+pub mod AgainstLaws
+pub mod LostLaws
+pub mod DueLaws
 pub mod JudgeLaws
 pub mod StepLaws
 pub mod Accepted

@@ -1,10 +1,13 @@
 -- Judging the open messages: which are lost, and what a verdict changes. Assumes nothing.
-use mathlib.Core.Bool.{Bool, cond, not, _&&_}
+use mathlib.Core.Bool.{Bool, false, cond, not, _&&_}
+use mathlib.Core.Path.{_≡_}
 use mathlib.Core.List.{List}
-use Prim.Native.Nat.{ℕ, _+_, _-_, _≤_}
-use lib.Dec.{leb, ltb}
+use Prim.Native.Nat.{ℕ, _+_, _-_, _≤_, _<_}
+use lib.Dec.{leb, ltb, eqb}
 use lib.ListN.{getD}
+use Rattle.basics.specs.Sums.{allBelow, listBelow}
 use Rattle.marks.specs.Masks.{isMarked, setBelow}
+use Rattle.marks.specs.Held.{heldAfter}
 use Rattle.shares.specs.Shares.{shareOf}
 use Rattle.downstream.specs.declared.state.Entry.{Entry}
 use Rattle.downstream.specs.declared.state.Downstream.{Downstream}
@@ -17,6 +20,32 @@ isDue shares u r numbers masks k e =
     not (isQuacked shares u numbers masks k)
     && leb (r + 1) (shareOf shares (isMarked (e .complaints)))
     && ltb (e .count) 255
+
+-- the part of that which the entry of message p + 1 + o decides: complaint share at least r + 1, and resend count below 255
+unfoldable pub enoughAgainst : List ℕ → ℕ → List ℕ → List ℕ → ℕ → ℕ → Bool
+enoughAgainst shares r counts complaints p o =
+    leb (r + 1) (shareOf shares (isMarked (getD complaints (placeAfter p o) 0)))
+    && ltb (getD counts (placeAfter p o) 0) 255
+
+-- nobody complains of the messages in the first n places
+unfoldable pub nobodyComplains : List ℕ → ℕ → Bool
+nobodyComplains complaints n = allBelow n (λ j. eqb (getD complaints j 0) 0)
+
+-- what each of the first n members holds of the 64 messages after p
+unfoldable pub heldRows : List ℕ → List ℕ → ℕ → ℕ → List ℕ
+heldRows numbers masks p n = listBelow n (λ i. heldAfter p (getD numbers i 0) (getD masks i 0))
+
+-- the share of the members whose word has bit o
+unfoldable pub holdingShare : List ℕ → List ℕ → ℕ → ℕ
+holdingShare shares rows o = shareOf shares (λ i. isMarked (getD rows i 0) o)
+
+-- where a set does not have j, none of the first n words changes from bit j to the next
+pub record Steady (rows : List ℕ) (n set : ℕ) : Type 0 where
+  pub same : (i j : ℕ) → i < n → isMarked set j ≡ false → isMarked (getD rows i 0) (j + 1) ≡ isMarked (getD rows i 0) j
+
+-- a message in a set of which those that hold it have share u at most
+unfoldable pub isLost : List ℕ → ℕ → List ℕ → ℕ → ℕ → Bool
+isLost shares u rows enough o = isMarked enough o && leb (holdingShare shares rows o) u
 
 -- message p + 1 + o is due
 abbrev pub dueAt : Downstream → ℕ → Bool

@@ -1,78 +1,25 @@
 // Judging the open messages: which verdicts are due, and what they change.
+use crate::against::enough_among;
+use crate::against::nobody_complains;
+use crate::lost::fill_held;
+use crate::lost::lost_among;
 use downstream::Downstream;
 use downstream::Entry;
 use downstream::complaints_of;
 use downstream::counts_of;
-use downstream::lacking;
 use downstream::masks_of;
 use downstream::numbers_of;
 ghost use mathlib.Core.Path.{_≡_};
 ghost use mathlib.Core.Bool.{cond};
 ghost use Prim.Native.Nat.{ℕ, _≤_, _+_};
 ghost use lib.ListN.{length, getD};
-ghost use Rattle.marks.specs.Masks.{isMarked, markOf, setBelow};
-ghost use Rattle.downstream.specs.State.{noEntry, placeAfter, isQuacked};
+ghost use Rattle.marks.specs.Masks.{isMarked, setBelow};
+ghost use Rattle.downstream.specs.State.{noEntry, placeAfter};
 ghost use Rattle.judging.specs.Complaints.{entriesAfter};
 ghost use Rattle.judging.specs.Verdicts.{isDue, dueOf, raisedEntry, judgedOf, Judging};
 
-// Whether message k is QUACKed: by what the members that lack it leave of the total.
-fn is_quacked(shares: &[u32], u: u32, numbers: &[u64; 64], masks: &[u64; 64], k: u64) -> bool
-    requires { ⌜ length (now shares) ≤ 64 ⌝ }
-    ensures { λ b. ⌜ b ≡ isQuacked (now (shares .entry)) u (now (numbers .entry)) (now (masks .entry)) k ⌝ }
-{
-    let without = shares::share(shares, lacking(numbers, masks, shares.len(), k));
-    let total = shares::total(shares);
-    u as u64 + 1 + without <= total
-}
-
-// Whether a verdict on message k is due. The dear question, who holds it, is asked last.
-fn is_due(
-    shares: &[u32],
-    u: u32,
-    r: u32,
-    numbers: &[u64; 64],
-    masks: &[u64; 64],
-    k: u64,
-    count: u64,
-    complaints: u64,
-) -> bool
-    requires { ⌜ length (now shares) ≤ 64 ⌝ }
-    ensures { λ b. ⌜ b ≡ isDue (now (shares .entry)) u r (now (numbers .entry)) (now (masks .entry)) k (record { count = count; complaints = complaints }) ⌝ }
-{
-    if 255 <= count {
-        return false;
-    }
-    let against = shares::share(shares, complaints);
-    if against < r as u64 + 1 {
-        return false;
-    }
-    !is_quacked(shares, u, numbers, masks, k)
-}
-
-// The set with offset o in it, where its message is due.
-fn with_due(
-    set: u64,
-    o: u64,
-    shares: &[u32],
-    u: u32,
-    r: u32,
-    numbers: &[u64; 64],
-    masks: &[u64; 64],
-    k: u64,
-    count: u64,
-    complaints: u64,
-) -> u64
-    requires { ⌜ length (now shares) ≤ 64 ⌝ }
-    ensures { λ b. ⌜ b ≡ cond (isDue (now (shares .entry)) u r (now (numbers .entry)) (now (masks .entry)) k (record { count = count; complaints = complaints })) (markOf set o) set ⌝ }
-{
-    if is_due(shares, u, r, numbers, masks, k, count, complaints) {
-        marks::mark(set, o)
-    } else {
-        set
-    }
-}
-
-// Those of the n messages after p that are due, a bit for each.
+// Those of the n messages after p that are due, a bit for each. The cheap questions come first: whether anybody complains at all, of which
+// messages enough complain, and only then who holds these.
 // inner: for the report step, which has judged the report; its state may lie in words.
 pub fn due_among(
     shares: &[u32],
@@ -88,25 +35,17 @@ pub fn due_among(
     requires { ⌜ (length (now shares) ≤ 64) × (p ≤ 1000000000000) × (n ≤ 64) ⌝ }
     ensures { λ b. ⌜ b ≡ setBelow n (λ o. isDue (now (shares .entry)) u r (now (numbers .entry)) (now (masks .entry)) (p + 1 + o) (record { count = getD (now (counts .entry)) (placeAfter p o) 0; complaints = getD (now (complaints .entry)) (placeAfter p o) 0 })) ⌝ }
 {
-    let mut set: u64 = 0;
-    let mut o: u64 = 0;
-    while o < n {
-        let at = ((p + o) % 64) as usize;
-        set = with_due(
-            set,
-            o,
-            shares,
-            u,
-            r,
-            numbers,
-            masks,
-            p + 1 + o,
-            counts[at],
-            complaints[at],
-        );
-        o += 1;
+    if nobody_complains(complaints) {
+        return 0;
     }
-    set
+    let enough = enough_among(shares, r, counts, complaints, p, n);
+    if enough == 0 {
+        return 0;
+    }
+    let mut held = [0u64; 64];
+    let members = shares.len();
+    fill_held(&mut held, numbers, masks, p, members);
+    lost_among(shares, u, &held[..members], enough, n)
 }
 
 // The messages from p + 1 up to S that are due, a bit for each.

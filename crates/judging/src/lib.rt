@@ -1,6 +1,8 @@
 // What a report changes at the receiving cluster, and which verdicts are then due.
+mod against;
 mod complaints;
 mod due;
+mod lost;
 mod reports;
 
 pub use complaints::Hearing;

@@ -3,4 +3,5 @@ pub mod MaskLaws
 pub mod RunLaws
 pub mod HeldLaws
 pub mod SetLaws
+pub mod AfterLaws
 pub mod Unique

@@ -133,8 +133,11 @@ and-unmark (suc n) m (suc b) h l =
     let low : (2 ^ suc n - 1 - 2 ^ suc b) % 2 ≡ 1 = omega (arith, two-pow-succ n, two-pow-succ b) in
     and-step m (2 ^ suc n - 1 - 2 ^ suc b) ∙ rw (half, low, and-unmark n (m / 2) b (omega (arith, two-pow-succ n)) (omega arith), without-step) (omega arith)
 
-one-shifted : (b : ℕ) → b < 64 → (1 * 2 ^ b) % 18446744073709551616 ≡ 2 ^ b
+pub one-shifted : (b : ℕ) → b < 64 → (1 * 2 ^ b) % 18446744073709551616 ≡ 2 ^ b
 one-shifted b h = shl-exact 1 b 64 (lit< tt) (omega arith) ∙ one-mul (2 ^ b)
+
+pub one-up : (b : ℕ) → b < 64 → 1 ≤ (1 * 2 ^ b) % 18446744073709551616
+one-up b h = omega (arith, one-shifted b h, pow-pos b)
 
 pub mark-in : (m b : ℕ) → b < 64 → bitOr m ((1 * 2 ^ b) % 18446744073709551616) ≡ markOf m b
 unfolding markOf

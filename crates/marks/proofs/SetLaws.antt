@@ -7,7 +7,7 @@ use native.Mathlib.Decide.{decLt}
 use native.Mathlib.Nat.{two-pow-succ, lt-of-le-of-lt}
 use native.Mathlib.Numerals.{add-one}
 use native.Mathlib.Omega.{arith}
-use lib.Bits.{bitAnd, and-shr, and-mod, and-le-l, and-zero-l}
+use lib.Bits.{bitAnd, bitOr, bitXor, and-shr, and-mod, and-le-l, and-zero-l, or-shr, or-mod, or-zero-l, xor-shr, xor-mod, xor-zero-l}
 use lib.Dec.{eqb, ltb}
 use lib.Pow.{pow-pos}
 use borrow.Author.Tests.{eq-eqb, ne-eqb, eqb-true, lt-ltb, le-ltb}
@@ -32,6 +32,33 @@ marked-and a b j =
     ap (λ (x : ℕ). eqb (x % 2) 1) (and-shr a b j)
     ∙ ap (λ (x : ℕ). eqb x 1) (and-mod (a / 2 ^ j) (b / 2 ^ j) 1)
     ∙ digit-and (a / 2 ^ j % 2) (b / 2 ^ j % 2) (omega arith) (omega arith)
+
+digit-or : (x y : ℕ) → x < 2 → y < 2 → eqb (bitOr x y) 1 ≡ (eqb x 1 || eqb y 1)
+digit-or zero y h k = ap (λ (z : ℕ). eqb z 1) (or-zero-l y)
+digit-or (suc zero) zero h k = refl
+digit-or (suc zero) (suc zero) h k = refl
+digit-or (suc zero) (suc (suc y)) h k = absurd (omega arith)
+digit-or (suc (suc x)) y h k = absurd (omega arith)
+
+pub marked-or : (a b j : ℕ) → isMarked (bitOr a b) j ≡ (isMarked a j || isMarked b j)
+unfolding isMarked
+marked-or a b j =
+    ap (λ (x : ℕ). eqb (x % 2) 1) (or-shr a b j)
+    ∙ ap (λ (x : ℕ). eqb x 1) (or-mod (a / 2 ^ j) (b / 2 ^ j) 1)
+    ∙ digit-or (a / 2 ^ j % 2) (b / 2 ^ j % 2) (omega arith) (omega arith)
+
+digit-xor : (x y : ℕ) → x < 2 → y < 2 → eqb (bitXor x y) 1 ≡ false → eqb x 1 ≡ eqb y 1
+digit-xor zero y h k e = sym (sym (ap (λ (z : ℕ). eqb z 1) (xor-zero-l y)) ∙ e)
+digit-xor (suc zero) zero h k e = no-both refl e
+digit-xor (suc zero) (suc zero) h k e = refl
+digit-xor (suc zero) (suc (suc y)) h k e = absurd (omega arith)
+digit-xor (suc (suc x)) y h k e = absurd (omega arith)
+
+-- where two masks do not differ
+pub marked-xor : (a b j : ℕ) → isMarked (bitXor a b) j ≡ false → isMarked a j ≡ isMarked b j
+unfolding isMarked
+marked-xor a b j e = digit-xor (a / 2 ^ j % 2) (b / 2 ^ j % 2) (omega arith) (omega arith)
+    (sym (ap (λ (x : ℕ). eqb (x % 2) 1) (xor-shr a b j) ∙ ap (λ (x : ℕ). eqb x 1) (xor-mod (a / 2 ^ j) (b / 2 ^ j) 1)) ∙ e)
 
 pub marked-not : (n m j : ℕ) → m < 2 ^ n → j < n → isMarked (2 ^ n - 1 - m) j ≡ not (isMarked m j)
 marked-not zero m j h l = absurd (omega arith)
@@ -117,6 +144,12 @@ pub set-cong : (p q : ℕ → Bool) (n : ℕ) → ((j : ℕ) → j < n → p j �
 unfolding setBelow
 set-cong p q zero h = refl
 set-cong p q (suc n) h = ap₂ (λ (b : Bool) (t : ℕ). cond b (withMark t n) t) (h n (omega arith)) (set-cong p q n (λ j l. h j (omega arith)))
+
+-- none passes
+pub set-none : (p : ℕ → Bool) (n : ℕ) → ((j : ℕ) → j < n → p j ≡ false) → 0 ≡ setBelow n p
+unfolding setBelow
+set-none p zero h = refl
+set-none p (suc n) h = simp (h n (omega arith)) (set-none p n (λ j l. h j (omega arith)))
 
 -- a bit comes into the set or it does not
 module _ (t i r : ℕ) (b : Bool) where

@@ -4,7 +4,7 @@ use mathlib.Core.Bool.{Bool}
 use Prim.Native.Nat.{ℕ, _/_, _^_, _≤_}
 use Rattle.basics.proofs.Unique.{one-answer}
 use Rattle.marks.specs.Masks.{isMarked, markOf, unmarkOf, runOf, reachOf, isSubset}
-use Rattle.marks.specs.Held.{holdsOf, noneAbove}
+use Rattle.marks.specs.Held.{holdsOf, noneAbove, heldAfter}
 
 pub one-is-marked : (mask b : ℕ) (r z : Bool) → r ≡ isMarked mask b → z ≡ isMarked mask b → r ≡ z
 one-is-marked mask b r z p q = one-answer p q
@@ -32,3 +32,6 @@ one-holds c mask k r z p q = one-answer p q
 
 pub one-none-above : (c mask s : ℕ) (r z : Bool) → r ≡ noneAbove c mask s → z ≡ noneAbove c mask s → r ≡ z
 one-none-above c mask s r z p q = one-answer p q
+
+pub one-held-after : (p c mask r z : ℕ) → r ≡ heldAfter p c mask → z ≡ heldAfter p c mask → r ≡ z
+one-held-after p c mask r z e f = one-answer e f

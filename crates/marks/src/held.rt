@@ -1,9 +1,10 @@
 // What a cumulative number c and a mask say is held.
 use crate::masks::is_marked;
+use crate::masks::past;
 use crate::masks::reach;
 ghost use mathlib.Core.Path.{_≡_};
 ghost use Prim.Native.Nat.{_≤_};
-ghost use Rattle.marks.specs.Held.{holdsOf, highestOf, noneAbove};
+ghost use Rattle.marks.specs.Held.{holdsOf, highestOf, noneAbove, heldAfter};
 
 // Whether message k is held: at most c, or marked.
 pub fn holds(c: u64, mask: u64, k: u64) -> bool
@@ -32,4 +33,18 @@ pub fn none_above(c: u64, mask: u64, s: u64) -> bool
         return false;
     }
     reach(mask) <= s - c
+}
+
+// What is held of the 64 messages after p: bit o speaks of message p + 1 + o. No shift is made where c is 64 or more past p.
+pub fn held_after(p: u64, c: u64, mask: u64) -> u64
+    ensures { λ r. ⌜ r ≡ heldAfter p c mask ⌝ }
+{
+    if c < p {
+        return past(mask, p - c);
+    }
+    let d = c - p;
+    if 64 <= d {
+        return 0xffff_ffff_ffff_ffff;
+    }
+    (mask << d) | ((1u64 << d) - 1)
 }

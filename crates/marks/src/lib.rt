@@ -3,6 +3,7 @@
 mod held;
 mod masks;
 
+pub use held::held_after;
 pub use held::highest;
 pub use held::holds;
 pub use held::none_above;

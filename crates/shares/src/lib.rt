@@ -6,5 +6,6 @@ mod totals;
 pub use cluster::cluster_refusal;
 pub use points::is_point;
 pub use points::point;
+pub use totals::marked_share;
 pub use totals::share;
 pub use totals::total;

@@ -1,76 +1,62 @@
--- The invariant: the set is that of the messages among the first o after p that are due.
-use Prim.Native.Nat.{_≤_, _-_, _+_}
-use mathlib.Core.Path.{_≡_}
-use lib.ListN.{length, getD}
-use Rattle.marks.specs.Masks.{setBelow}
-use Rattle.marks.proofs.SetLaws.{set-start, set-turn, set-done}
-use Rattle.downstream.specs.State.{placeAfter}
-use Rattle.judging.specs.Verdicts.{isDue}
+-- Each return answers by the questions that were asked up to it.
+use lib.ListN.{length}
+use Rattle.downstream.proofs.FormedLaws.{prefixes}
+use Rattle.judging.proofs.DueLaws.{nobody-due, none-due, rows-cut, rows-long, due-told}
 use borrow.Author.Needs.{needs}
 use Rattle.judging.proofs.due.due_among.Statement.{statement}
 use Rattle.judging.proofs.due.due_among.Tie as tie
 
-abbrev Inv-loop : tie.InvT-loop
-Inv-loop shares u r numbers masks counts complaints p n set₀ o₀ set o = (o ≤ n) × (n ≤ 64) × (p ≤ 1000000000000) × (length shares ≤ 64) × (set ≡ setBelow o (λ x. isDue shares u r numbers masks (p + 1 + x) (record { count = getD counts (placeAfter p x) 0; complaints = getD complaints (placeAfter p x) 0 })))
+nobody-complains-requires : tie.Need-nobody-complains-requires
+nobody-complains-requires c κs = search needs
 
-abbrev μ-loop : tie.MeasureT-loop
-μ-loop shares u r numbers masks counts complaints p n set₀ o₀ set o = n - o
+returns : tie.Need-returns
+returns c =
+    let a = c .before .before .before .args in
+    search (nobody-due (a .shares .now) (a .u) (a .r) (a .numbers .now) (a .masks .now) (a .counts .now) (a .complaints .now) (a .p))
 
-loop-holds : tie.Need-loop-holds Inv-loop μ-loop
-loop-holds c = (search needs, search needs, search needs, search needs, search set-start)
+enough-among-requires : tie.Need-enough-among-requires
+enough-among-requires c κs = search needs
 
-add-at : tie.Need-add-at Inv-loop μ-loop
-add-at c = search needs
+returns-2 : tie.Need-returns-2
+returns-2 c =
+    let a = c .before .before .before .before .before .args in
+    search (none-due (a .shares .now) (a .u) (a .r) (a .numbers .now) (a .masks .now) (a .counts .now) (a .complaints .now) (a .p))
 
-add-with-due : tie.Need-add-with-due Inv-loop μ-loop
-add-with-due c = search needs
+slice-aggregate-fill-held : tie.Need-slice-aggregate-fill-held
+slice-aggregate-fill-held c = search needs
 
-add-with-due-2 : tie.Need-add-with-due-2 Inv-loop μ-loop
-add-with-due-2 c = search needs
+fill-held-requires : tie.Need-fill-held-requires
+fill-held-requires c κs = search needs
 
-mul-with-due : tie.Need-mul-with-due Inv-loop μ-loop
-mul-with-due c = search needs
+array-share-prefix-held : tie.Need-array-share-prefix-held
+array-share-prefix-held c = search needs
 
-element-copy-out-with-due : tie.Need-element-copy-out-with-due Inv-loop μ-loop
-element-copy-out-with-due c = search needs
+slice-aggregate-lost-among : tie.Need-slice-aggregate-lost-among
+slice-aggregate-lost-among c = search prefixes
 
-mul-with-due-2 : tie.Need-mul-with-due-2 Inv-loop μ-loop
-mul-with-due-2 c = search needs
+lost-among-requires : tie.Need-lost-among-requires
+lost-among-requires c κs = (search needs, search rows-long, search needs)
 
-element-copy-out-with-due-2 : tie.Need-element-copy-out-with-due-2 Inv-loop μ-loop
-element-copy-out-with-due-2 c = search needs
-
-with-due-requires : tie.Need-with-due-requires Inv-loop μ-loop
-with-due-requires c κs = search needs
-
-add-o : tie.Need-add-o Inv-loop μ-loop
-add-o c = search needs
-
-loop-less : tie.Need-loop-less Inv-loop μ-loop
-loop-less c = search needs
-
-loop-again : tie.Need-loop-again Inv-loop μ-loop
-loop-again c = (search needs, search needs, search needs, search needs, search set-turn)
-
-returns : tie.Need-returns Inv-loop μ-loop
-returns c = search set-done
+returns-3 : tie.Need-returns-3
+returns-3 c =
+    let start = c .before .before .before .before .before .before .before .before .before .before in
+    let a = start .args in
+    let filled = c .before .before .before .fill-held .ensures in
+    let enough = c .before .before .before .before .before .before .enough-among .ensures in
+    due-told (a .shares .now) (a .u) (a .r) (a .numbers .now) (a .masks .now) (a .counts .now) (a .complaints .now) (a .p) (a .n) _ (start .pre .2) enough
+    _ (rows-cut (a .numbers .now) (a .masks .now) (a .p) (length (a .shares .now)) _ _ filled) _ (c .lost-among .ensures)
 
 pub due-among-spec : {M : Type 1} → statement M
 due-among-spec =
     tie.close
     (tie.spec
-    Inv-loop
-    μ-loop
-    loop-holds
-    add-at
-    add-with-due
-    add-with-due-2
-    mul-with-due
-    element-copy-out-with-due
-    mul-with-due-2
-    element-copy-out-with-due-2
-    with-due-requires
-    add-o
-    loop-less
-    loop-again
-    returns)
+    nobody-complains-requires
+    returns
+    enough-among-requires
+    returns-2
+    slice-aggregate-fill-held
+    fill-held-requires
+    array-share-prefix-held
+    slice-aggregate-lost-among
+    lost-among-requires
+    returns-3)
