@@ -3,7 +3,7 @@ use mathlib.Core.Path.{_≡_, refl, ap, sym, _∙_}
 use mathlib.Core.Bool.{Bool, true, false, cond, not, _&&_}
 use mathlib.Core.List.{List}
 use mathlib.Core.Logic.{inl, inr}
-use Prim.Native.Nat.{ℕ, zero, suc, _+_, _-_, _≤_, _<_}
+use Prim.Native.Nat.{ℕ, _+_, _-_, _≤_, _<_}
 use native.Mathlib.Decide.{decLt}
 use native.Mathlib.Omega.{arith}
 use lib.Dec.{leb, ltb, eqb}
@@ -11,9 +11,10 @@ use lib.ListN.{length, getD}
 use borrow.Author.Tests.{lt-ltb, le-ltb, le-leb, lt-leb, eqb-true, not-true}
 use Rattle.basics.proofs.BoolLaws.{bool-cases, and-left, and-right, and-not-left, and-not-right, no-both}
 use Rattle.basics.proofs.SumLaws.{sum-zero, all-at, list-at}
-use Rattle.marks.specs.Masks.{isMarked, unmarkOf, withoutMark, reachOf, reachIn, setBelow}
+use Rattle.marks.specs.Masks.{isMarked, unmarkOf, withoutMark, reachOf, reachIn}
 use Rattle.marks.specs.Held.{holdsOf, highestOf}
 use Rattle.marks.proofs.MaskLaws.{marked-none}
+use Rattle.marks.proofs.SetLaws.{set-none}
 use Rattle.shares.specs.Shares.{shareOf}
 use Rattle.downstream.specs.declared.state.Entry.{Entry}
 use Rattle.downstream.specs.declared.state.Downstream.{Downstream}
@@ -65,11 +66,6 @@ unfolding isDue shareOf
 none-due shares u r numbers masks k e z =
     let nobody : shareOf shares (isMarked (e .complaints)) ≡ 0 = rw z (sum-zero (λ i. cond (isMarked 0 i) (getD shares i 0) 0) (length shares) (λ j l. simp (marked-none j))) in
     and-not-left (not (isQuacked shares u numbers masks k) && leb (r + 1) (shareOf shares (isMarked (e .complaints)))) (ltb (e .count) 255) (and-not-right (not (isQuacked shares u numbers masks k)) (leb (r + 1) (shareOf shares (isMarked (e .complaints)))) (rw nobody (lt-leb (r + 1) 0 (omega arith))))
-
-set-none : (f : ℕ → Bool) (n : ℕ) → ((o : ℕ) → f o ≡ false) → setBelow n f ≡ 0
-unfolding setBelow
-set-none f zero h = refl
-set-none f (suc n) h = simp (h n) (set-none f n h)
 
 -- ---- where the report is quiet, every entry stays and nothing is due
 module _ (ws : List ℕ) (h : Hearing) (p : ℕ) (k : Stepping ws h p) (b : Bool)
@@ -144,7 +140,7 @@ module _ (ws : List ℕ) (h : Hearing) (p : ℕ) (k : Stepping ws h p) (b : Bool
 
   quiet-due : 0 ≡ dueOf (takenIn ws h) (windowIn ws .sent)
   unfolding dueOf entriesIn
-  quiet-due = sym (set-none (dueAt (takenIn ws h)) (windowIn ws .sent - takenIn ws h .point) (λ o. none-due _ _ _ _ _ _ _ (nobody o)))
+  quiet-due = set-none (dueAt (takenIn ws h)) (windowIn ws .sent - takenIn ws h .point) (λ o l. none-due _ _ _ _ _ _ _ (nobody o))
     where
       nobody : (o : ℕ) → getD (takenIn ws h .entries) (placeAfter (takenIn ws h .point) o) noEntry .complaints ≡ 0
       nobody o =

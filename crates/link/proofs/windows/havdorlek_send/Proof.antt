@@ -18,7 +18,7 @@ element-copy-out-next-refusal-2 : tie.Need-element-copy-out-next-refusal-2
 element-copy-out-next-refusal-2 c = search needs
 
 next-refusal-requires : tie.Need-next-refusal-requires
-next-refusal-requires c κs = (search (sent-in-range, point-in-range, not-false), search (sent-in-range, point-in-range, not-false))
+next-refusal-requires c κs = (search (sent-in-range, not-false), search (point-in-range, not-false))
 
 returns-2 : tie.Need-returns-2
 returns-2 c = (search (send-is, not-false), search (send-refused-words, not-false))
