@@ -13,7 +13,7 @@ use Rattle.basics.proofs.BoolLaws.{and-left, and-right}
 use Rattle.basics.proofs.CheckLaws.{checks-passed, checks-failed, checks-first, checks-later, first-passed, later-passed}
 use Rattle.basics.proofs.SumLaws.{length-list}
 use Rattle.shares.specs.Cluster.{clusterChecks, clusterRefusal, Accepted}
-use Rattle.shares.proofs.ClusterLaws.{cluster-numbered, accepts}
+use Rattle.shares.proofs.ClusterLaws.{cluster-numbered, accepts, total-small}
 use Rattle.hamilton.specs.Hamilton.{countOf, countsOf, Dealable}
 use Rattle.hamilton.specs.Counts.{countsRefusal, countsOut}
 
@@ -23,6 +23,7 @@ unfolding isQuantum
 dealable s u r q a b = record {
   few-members = a .few-members;
   some-total = omega (arith, a .enough);
+  small-total = total-small s u r a;
   some-quantum = leb-true 1 q (and-left (leb 1 q) (leb q 1024) b);
   small-quantum = leb-true q 1024 (and-right (leb 1 q) (leb q 1024) b);
 }

@@ -42,5 +42,6 @@ countsOf shares q = listBelow (length shares) (countOf shares q)
 pub record Dealable (shares : List ℕ) (q : ℕ) : Type 0 where
   pub few-members : length shares ≤ 64
   pub some-total : 0 < totalOf shares
+  pub small-total : totalOf shares ≤ 64_000_000
   pub some-quantum : 1 ≤ q
   pub small-quantum : q ≤ 1_024

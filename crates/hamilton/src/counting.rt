@@ -13,15 +13,15 @@ ghost use Rattle.hamilton.specs.Hamilton.{countsOf, Dealable};
 ghost use Rattle.hamilton.specs.Counts.{countsRefusal, countsOut};
 
 // A lower quota, and one more where the member's key is below the end.
-fn count(quota: u32, key: u64, end: u64) -> u32
+fn count(quota: u32, key: u32, end: u32) -> u32
     requires { ⌜ quota ≤ 1024 ⌝ }
     ensures { λ r. ⌜ r ≡ quota + cond (ltb key end) 1 0 ⌝ }
 {
-    quota + (is_below(key, end) as u32)
+    quota + is_below(key, end)
 }
 
 // Turns the lower quotas of n members into their counts.
-fn add_leftovers(keys: &[u64; 64], n: usize, end: u64, out: &mut [u32])
+fn add_leftovers(keys: &[u32; 64], n: usize, end: u32, out: &mut [u32])
     requires { ⌜ (n ≤ 64) × (n ≤ length (now out)) ⌝ }
     requires { ⌜ ((i : ℕ) → i < n → getD (now out) i 0 ≤ 1024) ⌝ }
     ensures { λ _. ⌜ now (out .exit) ≡ listBelow n (λ i. getD (now (out .entry)) i 0 + cond (ltb (getD (now (keys .entry)) i 0) end) 1 0) ++ drop n (now (out .entry)) ⌝ }
@@ -41,9 +41,9 @@ pub fn fill_counts(shares: &[u32], q: u32, out: &mut [u32])
     ensures { λ _. ⌜ now (out .exit) ≡ countsOf (now (shares .entry)) q ++ drop (length (now (shares .entry))) (now (out .entry)) ⌝ }
 {
     let d = shares::total(shares);
-    let mut keys = [0u64; 64];
+    let mut keys = [0u32; 64];
     let rest = fill_quotas(shares, q, d, &mut keys, out);
-    let end = threshold(&keys, shares.len(), rest, (d + 1) * 64);
+    let end = threshold(&keys, shares.len(), rest, ((d + 1) * 64) as u32);
     add_leftovers(&keys, shares.len(), end, out);
 }
 

@@ -14,30 +14,31 @@ fn times(share: u32, q: u32) -> u64
     (share as u64) * (q as u64)
 }
 
-// Member i's place in the order, as one number: it is lower for a larger remainder and, on ties, for a lower member.
-fn key(product: u64, d: u64, i: usize) -> u64
-    requires { ⌜ (0 < d) × (d < 64 * 4294967296) × (i < 64) ⌝ }
+// Member i's place in the order, as one number: it is lower for a larger remainder and, on ties, for a lower member. Accepted
+// shares are small enough for 32 bits.
+fn key(product: u64, d: u64, i: usize) -> u32
+    requires { ⌜ (0 < d) × (d ≤ 64000000) × (i < 64) ⌝ }
     ensures { λ r. ⌜ r ≡ (d - product % d) * 64 + i ⌝ }
 {
-    (d - product % d) * 64 + (i as u64)
+    ((d - product % d) * 64 + (i as u64)) as u32
 }
 
 // Fills the output with the lower quotas and the keys with the members' order, and says what the quotas leave of the quantum.
 // All in one pass: each member's quota and remainder then come of one division.
-pub(crate) fn fill_quotas(shares: &[u32], q: u32, d: u64, keys: &mut [u64], out: &mut [u32]) -> u64
+pub(crate) fn fill_quotas(shares: &[u32], q: u32, d: u64, keys: &mut [u32], out: &mut [u32]) -> u32
     requires { ⌜ Dealable (now shares) q ⌝ }
-    requires { ⌜ (d ≡ totalOf (now shares)) × (d < 64 * 4294967296) ⌝ }
+    requires { ⌜ d ≡ totalOf (now shares) ⌝ }
     requires { ⌜ (length (now shares) ≤ length (now keys)) × (length (now shares) ≤ length (now out)) ⌝ }
     ensures { λ r. ⌜ r ≡ undealtOf (now (shares .entry)) q ⌝ }
     ensures { λ _. ⌜ now (out .exit) ≡ listBelow (length (now (shares .entry))) (quotaOf (now (shares .entry)) q) ++ drop (length (now (shares .entry))) (now (out .entry)) ⌝ }
     ensures { λ _. ⌜ now (keys .exit) ≡ listBelow (length (now (shares .entry))) (λ i. (totalOf (now (shares .entry)) - remainderOf (now (shares .entry)) q i) * 64 + i) ++ drop (length (now (shares .entry))) (now (keys .entry)) ⌝ }
 {
-    let mut rest = q as u64;
+    let mut rest = q;
     let mut i = 0;
     while i < shares.len() {
         let product = times(shares[i], q);
-        let low = product / d;
-        out[i] = low as u32;
+        let low = (product / d) as u32;
+        out[i] = low;
         keys[i] = key(product, d, i);
         rest -= low;
         i += 1;

@@ -7,18 +7,18 @@ ghost use lib.ListN.{getD};
 ghost use Rattle.basics.specs.Sums.{howMany};
 
 // 1 where the key is below the end, else 0.
-pub(crate) fn is_below(key: u64, end: u64) -> u64
+pub(crate) fn is_below(key: u32, end: u32) -> u32
     ensures { λ r. ⌜ (r ≡ cond (ltb key end) 1 0) × (r ≤ 1) ⌝ }
 {
-    (key < end) as u64
+    (key < end) as u32
 }
 
 // How many of n keys are below the end.
-fn below(keys: &[u64; 64], n: usize, end: u64) -> u64
+fn below(keys: &[u32; 64], n: usize, end: u32) -> u32
     requires { ⌜ n ≤ 64 ⌝ }
     ensures { λ r. ⌜ r ≡ howMany n (λ j. ltb (getD (now (keys .entry)) j 0) end) ⌝ }
 {
-    let mut found: u64 = 0;
+    let mut found: u32 = 0;
     let mut j = 0;
     while j < n {
         found += is_below(keys[j], end);
@@ -29,8 +29,8 @@ fn below(keys: &[u64; 64], n: usize, end: u64) -> u64
 
 // What to try next between two ends: a member's key where it lies there, else their middle.
 // Equal remainders have keys close together, far from most middles, and a key leads there at once.
-fn between(key: u64, low: u64, high: u64) -> u64
-    requires { ⌜ (low + 1 < high) × (high ≤ 4096 * 4294967296) ⌝ }
+fn between(key: u32, low: u32, high: u32) -> u32
+    requires { ⌜ low + 1 < high ⌝ }
     ensures { λ r. ⌜ (low < r) × (r < high) ⌝ }
 {
     if low < key {
@@ -38,13 +38,13 @@ fn between(key: u64, low: u64, high: u64) -> u64
             return key;
         }
     }
-    (low + high) / 2
+    low + (high - low) / 2
 }
 
 // A number that just `rest` of n keys are below. No two keys are equal, so that there is one. With equal remainders it is
 // the key of member `rest`, tried first; then come members far apart, since neighbours with equal shares have nearly equal keys.
-pub(crate) fn threshold(keys: &[u64; 64], n: usize, rest: u64, end: u64) -> u64
-    requires { ⌜ (n ≤ 64) × (rest < n) × (end ≤ 4096 * 4294967296) ⌝ }
+pub(crate) fn threshold(keys: &[u32; 64], n: usize, rest: u32, end: u32) -> u32
+    requires { ⌜ (n ≤ 64) × (rest < n) × (end ≤ 64000001 * 64) ⌝ }
     requires { ⌜ rest < howMany n (λ j. ltb (getD (now keys) j 0) end) ⌝ }
     requires { ⌜ ((i j : ℕ) → i < j → j < n → getD (now keys) i 0 ≡ getD (now keys) j 0 → ⊥) ⌝ }
     ensures { λ r. ⌜ rest ≡ howMany n (λ j. ltb (getD (now (keys .entry)) j 0) r) ⌝ }

@@ -1,6 +1,6 @@
--- A report that changes no entry: nothing is collected, and nobody complains of anything. Assumes nothing.
+-- A report that changes no entry: nobody complains of anything, and none is emptied. Assumes nothing.
 use mathlib.Core.Path.{_≡_, refl, ap, sym, _∙_}
-use mathlib.Core.Bool.{Bool, true, false, cond, not, _&&_}
+use mathlib.Core.Bool.{Bool, true, false, cond, not, _&&_, _||_}
 use mathlib.Core.List.{List}
 use mathlib.Core.Logic.{inl, inr}
 use Prim.Native.Nat.{ℕ, _+_, _-_, _≤_, _<_}
@@ -9,7 +9,7 @@ use native.Mathlib.Omega.{arith}
 use lib.Dec.{leb, ltb, eqb}
 use lib.ListN.{length, getD}
 use borrow.Author.Tests.{lt-ltb, le-ltb, le-leb, lt-leb, eqb-true, not-true}
-use Rattle.basics.proofs.BoolLaws.{bool-cases, and-left, and-right, and-not-left, and-not-right, no-both}
+use Rattle.basics.proofs.BoolLaws.{bool-cases, or-cases, and-left, and-right, and-not-left, and-not-right, no-both}
 use Rattle.basics.proofs.SumLaws.{sum-zero, all-at, list-at}
 use Rattle.marks.specs.Masks.{isMarked, unmarkOf, withoutMark, reachOf, reachIn}
 use Rattle.marks.specs.Held.{holdsOf, highestOf}
@@ -69,9 +69,9 @@ none-due shares u r numbers masks k e z =
 
 -- ---- where the report is quiet, every entry stays and nothing is due
 module _ (ws : List ℕ) (h : Hearing) (p : ℕ) (k : Stepping ws h p) (b : Bool)
-    (eb : b ≡ (eqb p (wordAt ws 136) && eqb (h .mask) 0 && not (h .again && eqb (h .number) p) && noneAbove ws 393 64 0)) (t : b ≡ true) where
+    (eb : b ≡ ((eqb p (wordAt ws 136) || noneAbove ws 329 64 0) && eqb (h .mask) 0 && not (h .again && eqb (h .number) p) && noneAbove ws 393 64 0)) (t : b ≡ true) where
   abbrev stays : Bool
-  stays = eqb p (wordAt ws 136)
+  stays = eqb p (wordAt ws 136) || noneAbove ws 329 64 0
 
   abbrev clear : Bool
   clear = eqb (h .mask) 0
@@ -85,8 +85,8 @@ module _ (ws : List ℕ) (h : Hearing) (p : ℕ) (k : Stepping ws h p) (b : Bool
   quiet : (stays && clear && fresh && silent) ≡ true
   quiet = sym eb ∙ t
 
-  point-stays : p ≡ wordAt ws 136
-  point-stays = eqb-true p (wordAt ws 136) (and-left stays clear (and-left (stays && clear) fresh (and-left (stays && clear && fresh) silent quiet)))
+  none-emptied : stays ≡ true
+  none-emptied = and-left stays clear (and-left (stays && clear) fresh (and-left (stays && clear && fresh) silent quiet))
 
   mask-clear : h .mask ≡ 0
   mask-clear = eqb-true (h .mask) 0 (and-right stays clear (and-left (stays && clear) fresh (and-left (stays && clear && fresh) silent quiet)))
@@ -103,9 +103,13 @@ module _ (ws : List ℕ) (h : Hearing) (p : ℕ) (k : Stepping ws h p) (b : Bool
   abbrev s : ℕ
   s = wordAt ws 135
 
-  closed-entry : (j : ℕ) → j < 64 → s - p ≤ offsetAt p j → noEntry ≡ entryIn ws j
+  empty-entry : (j : ℕ) → wordAt ws (329 + j) ≡ 0 → wordAt ws (393 + j) ≡ 0 → noEntry ≡ entryIn ws j
+  empty-entry j a b = λ i. record { count = sym a i; complaints = sym b i }
+
+  -- nothing is collected: what is closed was so before
+  closed-before : p ≡ wordAt ws 136 → (j : ℕ) → j < 64 → s - p ≤ offsetAt p j → noEntry ≡ entryIn ws j
   unfolding windowIn entriesKept entriesIn
-  closed-entry j l m =
+  closed-before point-stays j l m =
       let o : ℕ = offsetAt p j in
       let e : Entry = entryIn ws j in
       let at : getD (entriesIn ws) (placeAfter (wordAt ws 136) o) noEntry ≡ e = rw (← point-stays, place-offset p j l) (list-at (entryIn ws) noEntry 64 j l) in
@@ -113,10 +117,13 @@ module _ (ws : List ℕ) (h : Hearing) (p : ℕ) (k : Stepping ws h p) (b : Bool
       (kept-entries before s (k .accepting .kept)) o (omega arith) in
       let y : (eqb (e .count) 0 && eqb (e .complaints) 0) ≡ true =
       entry-closed (before .cluster .members) (numbersOf (before .reports)) (masksOf (before .reports)) s (wordAt ws 136 + 1 + o) e (omega (arith, point-stays)) ∙ rw at at kept in
-      λ i. record {
-        count = sym (eqb-true (e .count) 0 (and-left (eqb (e .count) 0) (eqb (e .complaints) 0) y)) i;
-        complaints = sym (eqb-true (e .complaints) 0 (and-right (eqb (e .count) 0) (eqb (e .complaints) 0) y)) i;
-      }
+      empty-entry j (eqb-true (e .count) 0 (and-left (eqb (e .count) 0) (eqb (e .complaints) 0) y)) (no-set j l)
+
+  closed-entry : (j : ℕ) → j < 64 → s - p ≤ offsetAt p j → noEntry ≡ entryIn ws j
+  closed-entry j l m = elim (or-cases (eqb p (wordAt ws 136)) (noneAbove ws 329 64 0) none-emptied) [
+    | inl t ↦ closed-before (eqb-true p (wordAt ws 136) t) j l m
+    | inr t ↦ empty-entry j (omega (arith, none-at ws 329 64 0 t j l)) (no-set j l)
+  ]
 
   abbrev hears : ℕ → Entry → Entry
   hears = complainedEntry (h .member) (h .number) (h .mask) (h .again) p

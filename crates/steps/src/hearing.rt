@@ -2,7 +2,7 @@
 use crate::refusing::former_in;
 use judging::Hearing;
 ghost use mathlib.Core.Path.{_≡_};
-ghost use mathlib.Core.Bool.{true, not, _&&_};
+ghost use mathlib.Core.Bool.{true, not, _&&_, _||_};
 ghost use Prim.Native.Nat.{_≤_, _<_};
 ghost use lib.Dec.{eqb};
 ghost use lib.ListN.{set};
@@ -44,10 +44,12 @@ pub(crate) fn point_after(words: &[u64; 457], i: u32, c: u64) -> u64
     downstream::point_from(cluster, numbers)
 }
 
-// Whether the report changes no entry: nothing is collected, the member complains of nothing, and nobody else does.
+// Whether the report changes no entry: the member complains of nothing, nor does anybody else, and no entry is emptied, either because
+// nothing is collected or because nothing was ever sent again.
 pub(crate) fn is_quiet(words: &[u64; 457], h: Hearing, p: u64) -> bool
-    ensures { λ r. ⌜ r ≡ (eqb p (wordAt (now (words .entry)) 136) && eqb (h .mask) 0 && not (h .again && eqb (h .number) p) && noneAbove (now (words .entry)) 393 64 0) ⌝ }
+    ensures { λ r. ⌜ r ≡ ((eqb p (wordAt (now (words .entry)) 136) || noneAbove (now (words .entry)) 329 64 0) && eqb (h .mask) 0 && not (h .again && eqb (h .number) p) && noneAbove (now (words .entry)) 393 64 0) ⌝ }
 {
+    let unsent = words::none_above(words, 329, 64, 0);
     let silent = words::none_above(words, 393, 64, 0);
-    (p == words[136]) & (h.mask == 0) & !(h.again & (h.number == p)) & silent
+    ((p == words[136]) | unsent) & (h.mask == 0) & !(h.again & (h.number == p)) & silent
 }

@@ -19,6 +19,9 @@ add-threshold c = search needs
 mul-threshold : tie.Need-mul-threshold
 mul-threshold c = search needs
 
+cast-threshold : tie.Need-cast-threshold
+cast-threshold c = search needs
+
 threshold-requires : tie.Need-threshold-requires
 threshold-requires c κs =
     let quotas = c .before .before .before .before .fill-quotas .ensures in (
@@ -46,6 +49,7 @@ fill-counts-spec =
     fill-quotas-requires
     add-threshold
     mul-threshold
+    cast-threshold
     threshold-requires
     add-leftovers-requires
     same-length

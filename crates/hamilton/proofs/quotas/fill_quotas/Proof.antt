@@ -38,8 +38,8 @@ times-requires c κs = search needs
 div-low : tie.Need-div-low Inv-loop μ-loop
 div-low c = search needs
 
-cast-out : tie.Need-cast-out Inv-loop μ-loop
-cast-out c = search quota-fits
+cast-low : tie.Need-cast-low Inv-loop μ-loop
+cast-low c = search quota-fits
 
 mul-out : tie.Need-mul-out Inv-loop μ-loop
 mul-out c = search needs
@@ -88,7 +88,7 @@ fill-quotas-spec =
     shared-slice-read-times
     times-requires
     div-low
-    cast-out
+    cast-low
     mul-out
     slice-write-out
     key-requires

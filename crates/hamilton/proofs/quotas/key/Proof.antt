@@ -17,8 +17,11 @@ mul-result c = search needs
 add-result : tie.Need-add-result
 add-result c = search needs
 
+cast-result : tie.Need-cast-result
+cast-result c = search needs
+
 returns : tie.Need-returns
 returns c = search needs
 
 pub key-spec : {M : Type 1} → statement M
-key-spec = tie.close (tie.spec rem-result sub-result mul-result add-result returns)
+key-spec = tie.close (tie.spec rem-result sub-result mul-result add-result cast-result returns)
