@@ -15,21 +15,18 @@ use Rattle.hamilton.proofs.QuotaLaws.{counts-sum, count-le}
 use Rattle.deal.proofs.SlotLaws.{length-deal, owner-below}
 use Rattle.hamilton.proofs.JudgeLaws.{dealable, length-counts}
 
+-- no count is above q, so q rounds deal every count
+pub all-dealt : (s : List ℕ) (q : ℕ) → Dealable s q → slotsBefore (countsOf s q) q ≡ q
+unfolding slotsBefore countsOf
+all-dealt s q d =
+    rw (length-counts s q)
+    (sum-cong (λ i. min (getD (countsOf s q) i 0) q) (countOf s q) (length s)
+    (λ i l. omega (arith, list-at (countOf s q) 0 (length s) i l, count-le s q d i l)) ∙ counts-sum s q d)
+
 module _ (s : List ℕ) (u r q : ℕ) (a : Accepted s u r) (b : isQuantum q ≡ true) where
-  abbrev deals : Dealable s q
-  deals = dealable s u r q a b
-
-  -- no count is above q, so q rounds deal every count
-  all-dealt : slotsBefore (countsOf s q) q ≡ q
-  unfolding slotsBefore countsOf
-  all-dealt =
-      rw (length-counts s q)
-      (sum-cong (λ i. min (getD (countsOf s q) i 0) q) (countOf s q) (length s)
-      (λ i l. omega (arith, list-at (countOf s q) 0 (length s) i l, count-le s q deals i l)) ∙ counts-sum s q deals)
-
   -- the deal has exactly q slots
   pub deal-has-q-slots : length (dealOf (countsOf s q) q) ≡ q
-  deal-has-q-slots = length-deal (countsOf s q) q ∙ all-dealt
+  deal-has-q-slots = length-deal (countsOf s q) q ∙ all-dealt s q (dealable s u r q a b)
 
   pub sender-is-a-member : (k : ℕ) → senderOf s q k < length s
   unfolding senderOf

@@ -1,4 +1,5 @@
 -- The definitions that the contracts of `deal` cite. Assumes nothing.
 pub mod Rounds
+pub mod Dealing
 pub mod Pairs
 pub mod Examples

@@ -1,34 +1,25 @@
 -- Resend pairs: their judgement, and the answer from what the code knows where it answers. Assumes nothing.
-use mathlib.Core.Path.{_≡_, refl, ap, sym, _∙_}
+use mathlib.Core.Path.{_≡_, refl, sym, _∙_}
 use mathlib.Core.Bool.{true}
 use mathlib.Core.List.{List, [], _∷_}
-use Prim.Native.Nat.{ℕ, _-_, _%_, _≤_, _<_}
+use Prim.Native.Nat.{ℕ, _≤_, _<_}
 use lib.Dec.{leb, lit<}
 use lib.ListN.{length}
-use borrow.Author.Needs.{needs}
-use mir.Val.{Fits}
-use mir.Syntax.{w32}
 use borrow.Author.Tests.{eq-eqb, ne-eqb, leb-true}
 use Rattle.basics.specs.Checks.{_else_, firstFailing}
 use Rattle.basics.specs.Ranges.{isMessage, isResend}
 use Rattle.basics.proofs.BoolLaws.{and-left}
 use Rattle.basics.proofs.CheckLaws.{checks, checks-passed, checks-failed, checks-first, checks-later, first-passed, later-passed}
 use Rattle.shares.specs.Cluster.{Accepted}
-use Rattle.hamilton.specs.Hamilton.{countsOf, Dealable}
+use Rattle.hamilton.specs.Hamilton.{Dealable}
 use Rattle.deal.specs.Pairs as deal
-use Rattle.deal.specs.Rounds.{ownerOf}
-use Rattle.deal.proofs.SlotLaws.{owner-below}
-use Rattle.hamilton.proofs.JudgeLaws.{length-counts}
-use Rattle.deal.proofs.PairLaws.{slot-fits, sender-told}
 use Rattle.deal.proofs.JudgeLaws.{pair-numbered, pair-quantum, sending-dealable, sending-accepted, receiving-accepted}
 use Rattle.deal.proofs.DealIsWhole.{sender-is-a-member}
 use Rattle.circle.specs.Positions.{Sized, resendOf}
-use Rattle.circle.specs.TurnTable.{endsOf}
 use Rattle.circle.specs.declared.walk.Resend.{Resend}
-use Rattle.circle.specs.declared.table.Ends.{Ends}
 use Rattle.circle.proofs.CircleLaws.{sized}
 use Rattle.resend.specs.declared.pairs.ResendAnswer.{ResendAnswer}
-use Rattle.resend.specs.Resends.{Ready, knownEnds, senderOf, receiverOf, runOf, numberChecks, resendRefusal, noResend, resendPairOf}
+use Rattle.resend.specs.Resends.{senderOf, receiverOf, runOf, numberChecks, resendRefusal, noResend, resendPairOf}
 
 -- ---- the judgement
 module _ (ss : List ℕ) (su sr : ℕ) (rs : List ℕ) (ru rr q k n m : ℕ) (e : m ≡ deal.pairRefusal ss su sr rs ru rr q) where
@@ -94,24 +85,3 @@ module _ (ss : List ℕ) (su sr : ℕ) (rs : List ℕ) (ru rr q k n m : ℕ) (e 
       resend-told r g = simp (← e, eq-eqb m 0 z) (rw (g, f) refl)
 
 pub ruleset answering = (deals, sends-sized, receives-sized, some-resend, first-is-a-member)
-
--- ---- with the counts known
-module _ (ss rs counts : List ℕ) (q : ℕ) (y : Ready ss rs counts q) where
-  pub ready-few : length counts ≤ 64
-  ready-few = rw (y .counted, length-counts ss q) (y .deals .few-members)
-
-  pub ready-slot : (x : ℕ) → Fits w32 (x % q)
-  ready-slot x = slot-fits ss q (y .deals) x
-
-  module _ (k x first : ℕ) (e : x ≡ k - 1) (f : first ≡ ownerOf counts q (x % q)) where
-    first-sender : first ≡ deal.senderOf ss q k
-    first-sender = sender-told ss q k x first e (f ∙ ap (λ (c : List ℕ). ownerOf c q (x % q)) (y .counted))
-
-    pub ready-member : first < length ss
-    ready-member = rw (f, y .counted) (rw (length-counts ss q) at (owner-below (countsOf ss q) q (x % q) (rw (length-counts ss q) (y .sending .some-member))))
-
-    pub ready-told : (n : ℕ) (r : Ends) → r ≡ endsOf ss rs first n → r ≡ knownEnds ss rs q k n
-    unfolding knownEnds senderOf receiverOf endsOf
-    ready-told n r g = g ∙ ap (λ (i : ℕ). endsOf ss rs i n) first-sender
-
-pub ruleset ready = (ready-few, ready-slot, ready-member, needs)

@@ -1,5 +1,4 @@
 -- Resend pairs of a message, for any two clusters, quantum, message and resend number. Assumes nothing.
-use mathlib.Core.Path.{_≡_}
 use mathlib.Core.Bool.{cond}
 use mathlib.Core.List.{List, [], _∷_, _++_}
 use Prim.Native.Nat.{ℕ}
@@ -7,10 +6,7 @@ use lib.Dec.{eqb}
 use Rattle.basics.specs.Checks.{Check, _else_, firstFailing}
 use Rattle.basics.specs.Ranges.{isMessage, isResend}
 use Rattle.deal.specs.Pairs as deal
-use Rattle.hamilton.specs.Hamilton.{countsOf, Dealable}
 use Rattle.circle.specs.Circle as circle
-use Rattle.circle.specs.Positions.{Sized}
-use Rattle.circle.specs.declared.table.Ends.{Ends}
 use Rattle.resend.specs.declared.pairs.ResendAnswer.{ResendAnswer}
 
 -- Resend 1 of message k starts where the original sender's stretch ends: the ends and the run of resend n
@@ -22,17 +18,6 @@ receiverOf ss rs q k n = circle.receiverOf ss rs (deal.senderOf ss q k) n
 
 unfoldable pub runOf : List ℕ → List ℕ → ℕ → ℕ → ℕ → ℕ
 runOf ss rs q k n = circle.runOf ss rs (deal.senderOf ss q k) n
-
--- the two ends together
-unfoldable pub knownEnds : List ℕ → List ℕ → ℕ → ℕ → ℕ → Ends
-knownEnds ss rs q k n = record { sender = senderOf ss rs q k n; receiver = receiverOf ss rs q k n }
-
--- two clusters that are accepted, a quantum that is allowed, and the counts of the sending cluster
-pub record Ready (ss rs counts : List ℕ) (q : ℕ) : Type 0 where
-  pub sending : Sized ss
-  pub receiving : Sized rs
-  pub deals : Dealable ss q
-  pub counted : counts ≡ countsOf ss q
 
 -- Pairs: 1, 2, 3 of the sending cluster, then of the receiving, 4; then for resend pairs 6, 7
 abbrev pub numberChecks : ℕ → ℕ → List Check

@@ -1,7 +1,5 @@
 // Resend pairs: who sends a message again, to whom, and how many units its run takes.
-mod known;
 mod pairs;
 
-pub use known::known_ends;
 pub use pairs::ResendAnswer;
 pub use pairs::resend_pair;

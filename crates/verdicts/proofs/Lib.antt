@@ -1,2 +1,3 @@
 -- The laws of the verdicts' bytes, for this crate's proofs and those above it. Assumes nothing.
+pub mod DealtLaws
 pub mod WriteLaws

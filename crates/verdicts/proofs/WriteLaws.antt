@@ -26,13 +26,15 @@ use Rattle.hamilton.specs.Hamilton as hamilton
 use Rattle.hamilton.proofs.JudgeLaws.{length-counts}
 use Rattle.circle.specs.Positions.{Sized}
 use Rattle.circle.specs.declared.table.Ends.{Ends}
-use Rattle.resend.specs.Resends.{Ready, knownEnds}
+use Rattle.circle.specs.TurnTable.{endsOf}
+use Rattle.resend.specs.Resends.{senderOf, receiverOf}
+use Rattle.deal.specs.Pairs as deal
 use Rattle.downstream.specs.declared.state.Cluster.{Cluster}
 use Rattle.downstream.specs.declared.state.Downstream.{Downstream}
 use Rattle.downstream.specs.State.{sharesOf, countsOf}
 use Rattle.downstream.proofs.ColumnLaws.{length-resent, count-at}
 use Rattle.judging.specs.Verdicts.{dueOf, Judging}
-use Rattle.verdicts.specs.Written.{verdictBytes, verdictOf, verdictsTo, verdictsOf, verdictCount, Writing}
+use Rattle.verdicts.specs.Written.{verdictBytes, verdictFrom, verdictOf, verdictsTo, verdictsOf, verdictCount, Ready, Writing}
 
 -- the five parts of a verdict
 module _ (s : List ℕ) (room : 16 ≤ length s) (k x y n : ℕ) (a b c d e : List ℕ) where
@@ -78,11 +80,11 @@ suffix a xs v ys l n e =
     let y : ys ≡ v ++ drop (a + 16) xs = e ∙ ap (λ (t : List ℕ). v ++ drop 16 t) rest ∙ ap (λ (t : List ℕ). v ++ t) (drop-drop 16 a xs) in
     ap (λ (t : List ℕ). take a xs ++ (ys ++ t)) none ∙ ap (λ (t : List ℕ). take a xs ++ t) (append-nil ys ∙ y)
 
-module _ (ss rs : List ℕ) (q k n : ℕ) (a : ℕ) (xs : List ℕ) (due : Bool) where
-  pub due-put : (r : Ends) (ys : List ℕ) → due ≡ true → a + 16 ≤ length xs → r ≡ knownEnds ss rs q k n
+module _ (ss rs : List ℕ) (i k n : ℕ) (a : ℕ) (xs : List ℕ) (due : Bool) where
+  pub due-put : (r : Ends) (ys : List ℕ) → due ≡ true → a + 16 ≤ length xs → r ≡ endsOf ss rs i n
       → ys ≡ verdictBytes k (r .sender) (r .receiver) n ++ drop 16 (midOf a (length xs - a) xs)
-      → putMid a (length xs - a) xs ys ≡ cond due (take a xs ++ (verdictOf ss rs q k n ++ drop (a + 16) xs)) xs
-  unfolding verdictOf knownEnds
+      → putMid a (length xs - a) xs ys ≡ cond due (take a xs ++ (verdictFrom ss rs i k n ++ drop (a + 16) xs)) xs
+  unfolding verdictFrom endsOf
   due-put r ys t l e f =
       simp t (suffix a xs (verdictBytes k (r .sender) (r .receiver) n) ys (omega arith) (length-verdict k (r .sender) (r .receiver) n) f
       ∙ rw e refl)
@@ -128,6 +130,13 @@ module _ (ss rs : List ℕ) (q due : ℕ) (counts : List ℕ) (p : ℕ) where
   pub written-none : 0 ≡ length (sofar 0)
   unfolding verdictsTo
   written-none = refl
+
+  -- the verdict by the member that sent the first copy
+  pub put-from : (i o at : ℕ) (marked : Bool) (xs ys : List ℕ) → i ≡ deal.senderOf ss q (p + 1 + o)
+      → ys ≡ cond marked (take at xs ++ (verdictFrom ss rs i (p + 1 + o) (getD counts ((p + o) % 64) 0 + 1) ++ drop (at + 16) xs)) xs
+      → ys ≡ cond marked (take at xs ++ (verdict o ++ drop (at + 16) xs)) xs
+  unfolding verdictFrom verdictOf senderOf receiverOf
+  put-from i o at marked xs ys e f = rw e at f
 
   -- a turn of the loop
   module _ (o at : ℕ) (marked : Bool) (em : marked ≡ isMarked due o) (ea : at ≡ length (sofar o)) where

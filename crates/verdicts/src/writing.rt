@@ -5,13 +5,12 @@ use downstream::counts_of;
 ghost use mathlib.Core.Path.{_≡_};
 ghost use mathlib.Core.Bool.{cond};
 ghost use mathlib.Core.List.{_++_};
-ghost use Prim.Native.Nat.{ℕ, _+_, _≤_};
+ghost use Prim.Native.Nat.{ℕ, _+_, _≤_, _<_};
 ghost use lib.ListN.{length, take, drop, getD};
 ghost use Rattle.hamilton.specs.Hamilton.{Dealable};
 ghost use Rattle.circle.specs.Positions.{Sized};
 ghost use Rattle.circle.specs.TurnTable.{TurnTable};
-ghost use Rattle.resend.specs.Resends.{Ready};
-ghost use Rattle.verdicts.specs.Written.{verdictBytes, verdictOf, verdictsTo, verdictsOf, verdictCount, Writing};
+ghost use Rattle.verdicts.specs.Written.{verdictBytes, verdictFrom, verdictsTo, verdictsOf, verdictCount, Ready, Writing};
 
 // The 16 bytes of a verdict at the start of a part; what lies behind them stays.
 fn put_verdict(part: &mut [u8], k: u64, sender: u32, receiver: u32, n: u32)
@@ -25,36 +24,37 @@ fn put_verdict(part: &mut [u8], k: u64, sender: u32, receiver: u32, n: u32)
     basics::put_number(&mut part[11..16], 0);
 }
 
-// The verdict on message k, where it is due, behind the bytes already written; and where the next one goes.
+// The verdict on message k, whose first copy member i sent, behind the bytes already written, where it is due; and where the next one goes.
 fn put_due(
     out: &mut [u8],
     at: usize,
     due: bool,
     ss: &[u32],
     rs: &[u32],
-    slots: &[u32],
     senders: &[u32],
     receivers: &[u32],
     begins: &[u32],
     steps: u32,
-    q: u32,
+    i: u32,
     k: u64,
     count: u32,
 ) -> usize
-    requires { ⌜ (at + 16 ≤ length (now out)) × (Ready (now ss) (now rs) (now slots) q) × (count ≤ 255) ⌝ }
+    requires { ⌜ (at + 16 ≤ length (now out)) × (Sized (now ss)) × (Sized (now rs)) × (i < length (now ss)) × (count ≤ 255) ⌝ }
     requires { ⌜ TurnTable (now ss) (now rs) (now senders) (now receivers) (now begins) steps ⌝ }
-    ensures { λ r. ⌜ (r ≡ cond due (at + 16) at) × (now (out .exit) ≡ cond due (take at (now (out .entry)) ++ (verdictOf (now (ss .entry)) (now (rs .entry)) q k (count + 1) ++ drop (at + 16) (now (out .entry)))) (now (out .entry))) ⌝ }
+    ensures { λ r. ⌜ (r ≡ cond due (at + 16) at) × (now (out .exit) ≡ cond due (take at (now (out .entry)) ++ (verdictFrom (now (ss .entry)) (now (rs .entry)) i k (count + 1) ++ drop (at + 16) (now (out .entry)))) (now (out .entry))) ⌝ }
 {
     if due {
         let n = count + 1;
-        let ends = resend::known_ends(ss, rs, slots, senders, receivers, begins, steps, q, k, n);
+        let first = i as usize;
+        let ends = circle::ends_in_turn(ss, rs, senders, receivers, begins, steps, first, n);
         put_verdict(&mut out[at..], k, ends.sender, ends.receiver, n);
         return at + 16;
     }
     at
 }
 
-// The verdicts on those of the n messages after p that are due, one after another; and how many bytes they take.
+// The verdicts on those of the n messages after p that are due, one after another; and how many bytes they take. The messages' slots are
+// dealt one after another as well.
 fn put_verdicts(
     out: &mut [u8],
     due: u64,
@@ -75,26 +75,28 @@ fn put_verdicts(
     ensures { λ r. ⌜ (r ≡ length (verdictsTo (now (ss .entry)) (now (rs .entry)) q due (now (counts .entry)) p n)) × (now (out .exit) ≡ verdictsTo (now (ss .entry)) (now (rs .entry)) q due (now (counts .entry)) p n ++ drop r (now (out .entry))) ⌝ }
 {
     let mut at: usize = 0;
+    let mut dealer = deal::dealer_at(slots, q, (p % (q as u64)) as u32);
     let mut o: u64 = 0;
     while o < n {
         let place = ((p + o) % 64) as usize;
         let count = counts[place] as u32;
         let marked = marks::is_marked(due, o);
+        let turn = deal::fallen(slots, q, dealer);
         at = put_due(
             out,
             at,
             marked,
             ss,
             rs,
-            slots,
             senders,
             receivers,
             begins,
             steps,
-            q,
+            turn.member,
             p + 1 + o,
             count,
         );
+        dealer = deal::after(slots, q, turn);
         o += 1;
     }
     at

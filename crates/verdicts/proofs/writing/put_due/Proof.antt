@@ -7,8 +7,8 @@ use Rattle.verdicts.proofs.writing.put_due.Tie as tie
 add-n : tie.Need-add-n
 add-n c = search needs
 
-known-ends-requires : tie.Need-known-ends-requires
-known-ends-requires c κs = ((search needs, search needs, search needs), search needs)
+ends-in-turn-requires : tie.Need-ends-in-turn-requires
+ends-in-turn-requires c κs = ((search needs, search needs, search needs, search needs, search needs), search needs)
 
 sub-put-verdict : tie.Need-sub-put-verdict
 sub-put-verdict c = search needs
@@ -39,7 +39,7 @@ put-due-spec =
     tie.close
     (tie.spec
     add-n
-    known-ends-requires
+    ends-in-turn-requires
     sub-put-verdict
     part-put-verdict-start
     part-put-verdict-end
