@@ -22,13 +22,10 @@ pub extern "C" fn havdorlek_open(
 {
     let refusal = deal::pair_refusal(ss, su, sr, rs, ru, rr, q);
     if refusal != 0 {
-        let none = window::no_cluster();
-        words::put_opened(none, none, 0, window);
+        words::put_none(window);
         return refusal;
     }
-    let sending = window::cluster_from(ss, su, sr);
-    let receiving = window::cluster_from(rs, ru, rr);
-    words::put_opened(sending, receiving, q, window);
+    words::put_opened(ss, su, sr, rs, ru, rr, q, window);
     0
 }
 

@@ -7,8 +7,6 @@ mod sending;
 mod state;
 
 pub use opening::OpenAnswer;
-pub use opening::cluster_from;
-pub use opening::no_cluster;
 pub use refusing::given_refusal;
 pub use reporting::ReportAnswer;
 pub use sending::SendAnswer;

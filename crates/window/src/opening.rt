@@ -31,8 +31,7 @@ fn places(shares: &[u32]) -> [u32; 64]
 }
 
 // A cluster as the state keeps it.
-// inner: for an accepted cluster, which has at most 64 members.
-pub fn cluster_from(shares: &[u32], u: u32, r: u32) -> Cluster
+fn cluster_from(shares: &[u32], u: u32, r: u32) -> Cluster
     requires { ⌜ length (now shares) ≤ 64 ⌝ }
     ensures { λ c. ⌜ c ≡ clusterFrom (now (shares .entry)) u r ⌝ }
 {
@@ -74,7 +73,7 @@ fn window_from(sending: Cluster, receiving: Cluster, quantum: u32) -> Window
 }
 
 // The clusters of a state of zeros.
-pub fn no_cluster() -> Cluster
+fn no_cluster() -> Cluster
     ensures { λ c. ⌜ c ≡ noCluster ⌝ }
 {
     let shares = [0u32; 64];

@@ -1,7 +1,7 @@
 -- Parts that are put one behind the other fill what was lent. Assumes nothing.
 use mathlib.Core.Path.{_≡_, refl, ap, sym, _∙_}
 use mathlib.Core.List.{List, [], _∷_, _++_, append-nil}
-use Prim.Native.Nat.{ℕ, _+_, _≤_, _<_}
+use Prim.Native.Nat.{ℕ, zero, suc, _+_, _-_, _≤_, _<_}
 use native.Mathlib.Nat.{zero-add}
 use native.Mathlib.Omega.{arith}
 use lib.ListN.{length, drop, set, getD, replicate, drop-of-length-le, length-append}
@@ -9,15 +9,26 @@ use lib.Seq.{sets, sets-eq}
 use borrow.Rule.Slice.PartMut.{putMid}
 use Rattle.basics.proofs.PartLaws.{put-next}
 use Rattle.basics.specs.Sums.{listBelow}
-use Rattle.basics.proofs.SumLaws.{length-list, list-turn}
+use Rattle.basics.proofs.SumLaws.{length-list, list-at, list-is, list-turn}
 use Rattle.downstream.specs.declared.state.Cluster.{Cluster}
 use Rattle.downstream.specs.declared.state.Report.{Report}
 use Rattle.downstream.specs.declared.state.Entry.{Entry}
 use Rattle.downstream.specs.State.{noReport, noEntry, reportAt, numbersOf, masksOf, countsOf, complaintsOf}
 use Rattle.downstream.proofs.ColumnLaws.{length-resent}
 use Rattle.window.specs.declared.state.Window.{Window}
-use Rattle.window.specs.Opening.{windowFrom}
+use Rattle.window.specs.Opening.{clusterFrom, windowFrom, noWindow}
 use Rattle.words.specs.Put.{zeros, sharesWords, clusterWords, heardOf, reportWords, entryWords, wordsOf}
+
+-- places past a list's end are zero, whether they are there or not
+padded : (l : List ℕ) (n i : ℕ) → getD (l ++ replicate n 0) i 0 ≡ getD l i 0
+padded [] n i = none n i
+  where
+    none : (m j : ℕ) → _≡_ {A = ℕ} (getD (replicate m 0) j 0) 0
+    none zero j = refl
+    none (suc m) zero = refl
+    none (suc m) (suc j) = none m j
+padded (x ∷ xs) n zero = refl
+padded (x ∷ xs) n (suc i) = padded xs n i
 
 -- one part more behind those that are there
 more : (p ys s xs : List ℕ) (a k : ℕ) → xs ≡ p ++ drop a s → length p ≡ a → length ys ≡ k → putMid a k xs ys ≡ (p ++ ys) ++ drop (a + k) s
@@ -28,7 +39,7 @@ full : (p s : List ℕ) (n : ℕ) → length s ≡ n → p ++ drop n s ≡ p
 full p s n e = ap (λ (t : List ℕ). p ++ t) (drop-of-length-le s {i = n} (omega (arith, e))) ∙ append-nil p
 
 -- as many words as there are places, stored one behind the other
-pub sets-all : (vs s : List ℕ) → length s ≡ length vs → sets s 0 vs ≡ vs
+sets-all : (vs s : List ℕ) → length s ≡ length vs → sets s 0 vs ≡ vs
 sets-all vs s e = sets-eq vs s 0 (omega (arith, e, zero-add (length vs))) ∙ ap (λ (n : ℕ). vs ++ drop n s) (zero-add (length vs)) ∙ full vs s (length vs) e
 
 pub three-set : (a b c : ℕ) (s : List ℕ) → length s ≡ 3 → set (set (set s 0 a) 1 b) 2 c ≡ a ∷ b ∷ c ∷ []
@@ -38,12 +49,20 @@ length-shares : (c : Cluster) → length (sharesWords c) ≡ 64
 unfolding sharesWords
 length-shares c = length-list (λ i. getD (c .shares) i 0) 64
 
-pub cluster-put : (c : Cluster) (s y z : List ℕ) → length s ≡ 67 → y ≡ c .members ∷ c .u ∷ c .r ∷ [] → z ≡ sharesWords c → putMid 3 64 (putMid 0 3 s y) z ≡ clusterWords c
+-- share places past the cluster's end are zero, as are those of a list past its end
+shares-put : (shares : List ℕ) (u r : ℕ) → listBelow 64 (λ i. getD shares i 0) ≡ sharesWords (clusterFrom shares u r)
+unfolding sharesWords
+shares-put shares u r =
+    list-is (λ i. getD (shares ++ replicate (64 - length shares) 0) i 0) 0 64 (listBelow 64 (λ i. getD shares i 0)) (length-list (λ i. getD shares i 0) 64)
+    (λ i l. list-at (λ j. getD shares j 0) 0 64 i l ∙ sym (padded shares (64 - length shares) i))
+
+pub cluster-put : (shares : List ℕ) (u r : ℕ) (s y z : List ℕ) → length s ≡ 67 → y ≡ length shares ∷ u ∷ r ∷ [] → z ≡ listBelow 64 (λ i. getD shares i 0)
+    → putMid 3 64 (putMid 0 3 s y) z ≡ clusterWords (clusterFrom shares u r)
 unfolding clusterWords
-cluster-put c s y z l d e =
+cluster-put shares u r s y z l d e =
     let ly : length y ≡ 3 = ap length d in
-    let lz : length z ≡ 64 = ap length e ∙ length-shares c in
-    more y z s (putMid 0 3 s y) 3 64 (put-next [] y s 0 3 refl ly) ly lz ∙ full (y ++ z) s 67 l ∙ rw (d, e)
+    let lz : length z ≡ 64 = ap length e ∙ length-list (λ i. getD shares i 0) 64 in
+    more y z s (putMid 0 3 s y) 3 64 (put-next [] y s 0 3 refl ly) ly lz ∙ full (y ++ z) s 67 l ∙ rw (d, e, shares-put shares u r)
 
 pub length-cluster : (c : Cluster) → length (clusterWords c) ≡ 67
 unfolding clusterWords
@@ -75,7 +94,7 @@ length-reports l =
     length-append (numbersOf l ++ masksOf l) (heardOf l)
     ∙ omega (arith, length-append (numbersOf l) (masksOf l), length-numbers l, length-masks l, length-heard l)
 
-pub window-put : (w : Window) (s a b c d e : List ℕ) → length s ≡ 457 → a ≡ clusterWords (w .sending) → b ≡ clusterWords (w .downstream .cluster)
+window-put : (w : Window) (s a b c d e : List ℕ) → length s ≡ 457 → a ≡ clusterWords (w .sending) → b ≡ clusterWords (w .downstream .cluster)
     → c ≡ w .quantum ∷ w .sent ∷ w .downstream .point ∷ [] → d ≡ reportWords (w .downstream .reports) → e ≡ entryWords (w .downstream .entries)
     → putMid 329 128 (putMid 137 192 (putMid 134 3 (putMid 67 67 (putMid 0 67 s a) b) c) d) e ≡ wordsOf w
 unfolding wordsOf
@@ -113,6 +132,10 @@ none-reported = refl
 none-open : zeros 128 ≡ entryWords (replicate 64 noEntry)
 unfolding zeros entryWords countsOf complaintsOf listBelow
 none-open = refl
+
+pub none-put : (l : List ℕ) → l ≡ zeros 457 → l ≡ wordsOf noWindow
+unfolding zeros wordsOf clusterWords sharesWords reportWords entryWords numbersOf masksOf heardOf countsOf complaintsOf listBelow
+none-put l e = e
 
 pub opened-put : (sending receiving : Cluster) (q : ℕ) (s a b c d e : List ℕ) → length s ≡ 457 → a ≡ clusterWords sending → b ≡ clusterWords receiving
     → c ≡ q ∷ 0 ∷ 0 ∷ [] → d ≡ zeros 192 → e ≡ zeros 128

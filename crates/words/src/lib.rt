@@ -1,13 +1,14 @@
 // The window's state as 457 words of 64 bits: what a unit writes to its disk and reads back after a power cut.
 mod judging;
 mod opening;
-mod putting;
+mod sending;
 mod taking;
 
 pub use judging::column_at;
 pub use judging::formed;
+pub use opening::put_none;
 pub use opening::put_opened;
-pub use putting::put_sent;
+pub use sending::put_sent;
 pub use taking::cluster_at;
 pub use taking::none_above;
 pub use taking::quantum_in;

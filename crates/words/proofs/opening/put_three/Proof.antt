@@ -1,8 +1,8 @@
 -- Three words at literal places.
 use Rattle.words.proofs.PutLaws.{three-set}
 use borrow.Author.Needs.{needs}
-use Rattle.words.proofs.putting.put_three.Statement.{statement}
-use Rattle.words.proofs.putting.put_three.Tie as tie
+use Rattle.words.proofs.opening.put_three.Statement.{statement}
+use Rattle.words.proofs.opening.put_three.Tie as tie
 
 slice-write-out : tie.Need-slice-write-out
 slice-write-out c = search needs

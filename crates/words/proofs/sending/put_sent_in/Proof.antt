@@ -1,8 +1,8 @@
 -- One word stored, and the others are the state's already.
 use Rattle.words.proofs.RoundTrip.{sent-alone}
 use borrow.Author.Needs.{needs}
-use Rattle.words.proofs.putting.put_sent_in.Statement.{statement}
-use Rattle.words.proofs.putting.put_sent_in.Tie as tie
+use Rattle.words.proofs.sending.put_sent_in.Statement.{statement}
+use Rattle.words.proofs.sending.put_sent_in.Tie as tie
 
 slice-write-out : tie.Need-slice-write-out
 slice-write-out c = search needs

@@ -1,19 +1,8 @@
 -- Three words and a column, one behind the other.
 use Rattle.words.proofs.PutLaws.{cluster-put}
 use borrow.Author.Needs.{needs}
-use Rattle.words.proofs.putting.put_cluster.Statement.{statement}
-use Rattle.words.proofs.putting.put_cluster.Tie as tie
-use Rattle.words.proofs.putting.put_shares.Reads as put-shares-reads
-use Rattle.words.proofs.putting.put_three.Reads as put-three-reads
-
-cast-put-three : tie.Need-cast-put-three
-cast-put-three c = search needs
-
-cast-put-three-2 : tie.Need-cast-put-three-2
-cast-put-three-2 c = search needs
-
-cast-put-three-3 : tie.Need-cast-put-three-3
-cast-put-three-3 c = search needs
+use Rattle.words.proofs.opening.put_cluster.Statement.{statement}
+use Rattle.words.proofs.opening.put_cluster.Tie as tie
 
 sub-put-three : tie.Need-sub-put-three
 sub-put-three c = search needs
@@ -49,9 +38,6 @@ pub put-cluster-spec : {M : Type 1} → statement M
 put-cluster-spec =
     tie.close
     (tie.spec
-    cast-put-three
-    cast-put-three-2
-    cast-put-three-3
     sub-put-three
     part-put-three-start
     part-put-three-end
