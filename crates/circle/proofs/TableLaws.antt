@@ -36,6 +36,9 @@ module _ (left w whole j before : ℕ) (e : whole ≡ w) where
 pub step-below : (begin steps x : ℕ) → begin < steps → x % steps < steps
 step-below begin steps x h = mod-lt x (omega arith)
 
+pub step-within : (steps x : ℕ) → x < steps → x ≡ x % steps
+step-within steps x h = sym (mod-eq-of-lt h)
+
 module _ (ss rs : List ℕ) (a : Sized ss) (b : Sized rs) where
   abbrev l : ℕ
   l = circleUnits ss rs

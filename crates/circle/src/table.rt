@@ -83,12 +83,16 @@ pub fn fill_turn(
     0
 }
 
-// The step of resend n, where resend 1 is the step with which a stretch begins.
+// The step of resend n, where resend 1 is the step with which a stretch begins. Within the first turn nothing is divided.
 fn step_of(begin: u32, n: u32, steps: u32) -> u32
     requires { ⌜ (begin < steps) × (steps ≤ 128) × (1 ≤ n) × (n ≤ 256) ⌝ }
     ensures { λ r. ⌜ (r ≡ (begin + n - 1) % steps) × (r < steps) ⌝ }
 {
-    (begin + n - 1) % steps
+    let step = begin + n - 1;
+    if step < steps {
+        return step;
+    }
+    step % steps
 }
 
 // The ends of resend n, the original sender being member i: from the table, or walked where the table does not have them.

@@ -14,8 +14,7 @@ fn slots_taken(count: u32, t: u32) -> u64
 }
 
 // The slots of the first t rounds.
-// inner: for a cluster's counts, of which there are at most 64.
-pub fn slots_before(counts: &[u32], t: u32) -> u64
+pub(crate) fn slots_before(counts: &[u32], t: u32) -> u64
     requires { ⌜ length (now counts) ≤ 64 ⌝ }
     ensures { λ r. ⌜ r ≡ slotsBefore (now (counts .entry)) t ⌝ }
 {
@@ -37,8 +36,7 @@ fn earliest_round(counts: &[u32], q: u32, slot: u64) -> u32
 }
 
 // The round that a slot is in. Where shares differ little it is the earliest that it can be in.
-// inner: for a slot of the deal.
-pub fn round_with(counts: &[u32], q: u32, slot: u64) -> u32
+pub(crate) fn round_with(counts: &[u32], q: u32, slot: u64) -> u32
     requires { ⌜ (length (now counts) ≤ 64) × (slot < slotsBefore (now counts) q) ⌝ }
     ensures { λ t. ⌜ (t < q) × (slotsBefore (now (counts .entry)) t ≤ slot) × (slot < slotsBefore (now (counts .entry)) (t + 1)) ⌝ }
 {
@@ -59,7 +57,7 @@ pub fn round_with(counts: &[u32], q: u32, slot: u64) -> u32
 }
 
 // 1 where a member with this count takes a slot in round t, else 0.
-pub fn takes_slot(count: u32, t: u32) -> u64
+pub(crate) fn takes_slot(count: u32, t: u32) -> u64
     ensures { λ r. ⌜ (r ≡ cond (ltb t count) 1 0) × (r ≤ 1) ⌝ }
 {
     if t < count { 1 } else { 0 }

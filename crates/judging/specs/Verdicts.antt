@@ -43,6 +43,12 @@ holdingShare shares rows o = shareOf shares (λ i. isMarked (getD rows i 0) o)
 pub record Steady (rows : List ℕ) (n set : ℕ) : Type 0 where
   pub same : (i j : ℕ) → i < n → isMarked set j ≡ false → isMarked (getD rows i 0) (j + 1) ≡ isMarked (getD rows i 0) j
 
+-- from offset o on, up to and without r, which is at most n, a set of changes has none
+pub record SteadyUntil (set o n r : ℕ) : Type 0 where
+  pub further : o < r
+  pub within : r ≤ n
+  pub none : (j : ℕ) → o ≤ j → j + 1 < r → isMarked set j ≡ false
+
 -- a message in a set of which those that hold it have share u at most
 unfoldable pub isLost : List ℕ → ℕ → List ℕ → ℕ → ℕ → Bool
 isLost shares u rows enough o = isMarked enough o && leb (holdingShare shares rows o) u

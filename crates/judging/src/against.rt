@@ -9,8 +9,7 @@ ghost use Rattle.shares.specs.Shares.{shareOf};
 ghost use Rattle.judging.specs.Verdicts.{enoughAgainst, nobodyComplains};
 
 // Whether no message at all has a complaint: then nothing else need be asked.
-// inner: for the verdicts that are due.
-pub fn nobody_complains(complaints: &[u64; 64]) -> bool
+pub(crate) fn nobody_complains(complaints: &[u64; 64]) -> bool
     ensures { λ b. ⌜ b ≡ nobodyComplains (now (complaints .entry)) 64 ⌝ }
 {
     let mut any: u64 = 0;
@@ -52,8 +51,7 @@ fn with_enough(set: u64, o: u64, against: u64, r: u32, count: u64) -> u64
 }
 
 // Those of the n messages after p that enough members complain of, a bit for each.
-// inner: for the verdicts that are due, with what they require.
-pub fn enough_among(
+pub(crate) fn enough_among(
     shares: &[u32],
     r: u32,
     counts: &[u64; 64],

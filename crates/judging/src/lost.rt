@@ -1,17 +1,17 @@
 // Which of the messages that enough members complain of too few hold: the dear question, asked by what each member holds after p as one
 // word.
 ghost use mathlib.Core.Path.{_≡_};
-ghost use mathlib.Core.Bool.{cond, _&&_};
+ghost use mathlib.Core.Bool.{cond};
 ghost use mathlib.Core.List.{_++_};
-ghost use Prim.Native.Nat.{_≤_, _+_};
+ghost use Prim.Native.Nat.{_≤_, _<_};
+ghost use lib.Bits.{bitOr};
 ghost use lib.Dec.{leb};
 ghost use lib.ListN.{length, drop};
-ghost use Rattle.marks.specs.Masks.{isMarked, markOf, setBelow};
-ghost use Rattle.judging.specs.Verdicts.{heldRows, holdingShare, Steady, isLost};
+ghost use Rattle.marks.specs.Masks.{setBelow, amongOf};
+ghost use Rattle.judging.specs.Verdicts.{heldRows, Steady, SteadyUntil, isLost};
 
 // Fills the first n places with what each member holds of the 64 messages after p.
-// inner: for the verdicts that are due; the places are 64.
-pub fn fill_held(out: &mut [u64], numbers: &[u64; 64], masks: &[u64; 64], p: u64, n: usize)
+pub(crate) fn fill_held(out: &mut [u64], numbers: &[u64; 64], masks: &[u64; 64], p: u64, n: usize)
     requires { ⌜ (n ≤ 64) × (n ≤ length (now out)) ⌝ }
     ensures { λ _. ⌜ now (out .exit) ≡ heldRows (now (numbers .entry)) (now (masks .entry)) p n ++ drop n (now (out .entry)) ⌝ }
 {
@@ -36,43 +36,39 @@ fn changes(rows: &[u64]) -> u64
     set
 }
 
-// The share that holds the message after offset o, that of offset o being known: it is weighed again only where some word changes.
-fn next_share(shares: &[u32], rows: &[u64], changing: u64, o: u64, share: u64) -> u64
-    requires { ⌜ (length (now shares) ≤ 64) × (length (now rows) ≡ length (now shares)) × (Steady (now rows) (length (now rows)) changing) × (o ≤ 64) × (share ≡ holdingShare (now shares) (now rows) o) ⌝ }
-    ensures { λ r. ⌜ r ≡ holdingShare (now (shares .entry)) (now (rows .entry)) (o + 1) ⌝ }
+// Up to where, from offset o on, no word changes: without this offset, which is at most n.
+fn steady_until(changing: u64, o: u64, n: u64) -> u64
+    requires { ⌜ (o < n) × (n ≤ 64) ⌝ }
+    ensures { λ r. ⌜ SteadyUntil changing o n r ⌝ }
 {
-    if marks::is_marked(changing, o) {
-        return shares::marked_share(shares, rows, o + 1);
-    }
-    share
+    let still = marks::run(!marks::past(changing, o)) as u64;
+    basics::least(o + still + 1, n)
 }
 
-// The set with offset o in it, where enough complain of its message and this share is at most u.
-fn with_lost(set: u64, o: u64, enough: u64, share: u64, u: u32) -> u64
-    ensures { λ b. ⌜ b ≡ cond (isMarked enough o && leb share u) (markOf set o) set ⌝ }
+// The set with those of another between two offsets, where this share is at most u.
+fn with_lost(set: u64, enough: u64, from: u64, to: u64, share: u64, u: u32) -> u64
+    ensures { λ b. ⌜ b ≡ cond (leb share u) (bitOr set (amongOf enough from to)) set ⌝ }
 {
-    let asked = marks::is_marked(enough, o);
-    if asked & (share <= u as u64) {
-        marks::mark(set, o)
-    } else {
-        set
+    if share <= u as u64 {
+        return set | marks::among(enough, from, to);
     }
+    set
 }
 
-// Those of the first n messages of a set that members of share u at most hold, by the members' words.
-// inner: for the verdicts that are due, with what they require.
-pub fn lost_among(shares: &[u32], u: u32, rows: &[u64], enough: u64, n: u64) -> u64
+// Those of the first n messages of a set that members of share u at most hold, by the members' words. The share is weighed once for all
+// messages from one change of some word to the next: messages that were sent one after another are mostly held together.
+pub(crate) fn lost_among(shares: &[u32], u: u32, rows: &[u64], enough: u64, n: u64) -> u64
     requires { ⌜ (length (now shares) ≤ 64) × (length (now rows) ≡ length (now shares)) × (n ≤ 64) ⌝ }
     ensures { λ b. ⌜ b ≡ setBelow n (isLost (now (shares .entry)) u (now (rows .entry)) enough) ⌝ }
 {
     let changing = changes(rows);
-    let mut share = shares::marked_share(shares, rows, 0);
     let mut set: u64 = 0;
     let mut o: u64 = 0;
     while o < n {
-        set = with_lost(set, o, enough, share, u);
-        share = next_share(shares, rows, changing, o, share);
-        o += 1;
+        let share = shares::marked_share(shares, rows, o);
+        let next = steady_until(changing, o, n);
+        set = with_lost(set, enough, o, next, share, u);
+        o = next;
     }
     set
 }

@@ -1,31 +1,22 @@
 -- What is held of the 64 messages after p, as one word. Assumes nothing.
 use mathlib.Core.Path.{_≡_, refl, ap, sym, _∙_}
-use mathlib.Core.Bool.{Bool, true, false, not, _&&_, _||_}
+use mathlib.Core.Bool.{Bool, true, false, _&&_, _||_}
 use Prim.Native.Nat.{ℕ, _+_, _-_, _*_, _/_, _%_, _^_, _≤_, _<_}
 use native.Mathlib.Decide.{decLt}
 use native.Mathlib.Nat.{lt-of-le-of-lt, mod-lt}
 use native.Mathlib.Omega.{arith}
 use lib.Bits.{bitOr, and-mask, or-lt}
-use lib.Pow.{pow-pos, pow-lt, shl-shr, shr-le, ones-lt}
-use borrow.Author.Tests.{lt-ltb}
+use lib.Pow.{pow-pos, shl-shr, shr-le}
+use borrow.Author.Tests.{lt-ltb, le-ltb}
 use mir.Val.{Fits}
 use mir.Syntax.{w64}
 use Rattle.basics.proofs.BoolLaws.{or-right}
-use Rattle.marks.specs.Masks.{isMarked}
+use Rattle.marks.specs.Masks.{isMarked, firstOf}
 use Rattle.marks.specs.Held.{holdsOf, heldAfter}
-use Rattle.marks.proofs.MaskLaws.{marked-past, marked-none, marked-beyond, same-marks, one-shifted}
-use Rattle.marks.proofs.SetLaws.{marked-and, marked-or, marked-not, marked-set, set-lt}
+use Rattle.marks.proofs.MaskLaws.{marked-past, marked-beyond, same-marks}
+use Rattle.marks.proofs.SetLaws.{marked-and, marked-or, marked-set, set-lt}
+use Rattle.marks.proofs.FirstLaws.{first-marked, and-true, first-at, first-lt}
 use Rattle.marks.proofs.HeldLaws.{holds-low, holds-high}
-
--- the first n bits
-first-marked : (n j : ℕ) → j < n → isMarked (2 ^ n - 1) j ≡ true
-first-marked n j l =
-    let z : 2 ^ n - 1 ≡ 2 ^ n - 1 - 0 = omega arith in
-    ap (λ (x : ℕ). isMarked x j) z ∙ marked-not n 0 j (pow-pos n) l ∙ ap not (marked-none j)
-
-and-true : (b : Bool) → (b && true) ≡ b
-and-true true = refl
-and-true false = refl
 
 -- what is cut off lies past the bit
 marked-cut : (n x j : ℕ) → j < n → isMarked (x % 2 ^ n) j ≡ isMarked x j
@@ -57,8 +48,9 @@ after-before p c m r f l e = e ∙ after-is p c m (m / 2 ^ (p - c)) (lt-of-le-of
     marked-past m (p - c) j ∙ ap (λ (x : ℕ). isMarked m x) z ∙ sym (holds-high c m (p + 1 + j) (omega arith)))
 
 -- c is past all of them
-pub after-all : (p c m : ℕ) → p ≤ c → 64 ≤ c - p → 18446744073709551615 ≡ heldAfter p c m
-after-all p c m l h = after-is p c m 18446744073709551615 (ones-lt 64) (λ j k. first-marked 64 j k ∙ sym (holds-low c m (p + 1 + j) (omega arith)))
+pub after-all : (p c m r : ℕ) → p ≤ c → 64 ≤ c - p → r ≡ firstOf (c - p) → r ≡ heldAfter p c m
+after-all p c m r l h e = e ∙ after-is p c m (firstOf (c - p)) (first-lt (c - p)) (λ j k.
+    first-at (c - p) j k ∙ lt-ltb j (c - p) (omega arith) ∙ sym (holds-low c m (p + 1 + j) (omega arith)))
 
 -- c is among them: those up to c, and the mask moved up behind them
 module _ (p c m : ℕ) (l : p ≤ c) (h : c - p < 64) where
@@ -66,15 +58,15 @@ module _ (p c m : ℕ) (l : p ≤ c) (h : c - p < 64) where
   up = (m * 2 ^ (c - p)) % 18446744073709551616
 
   abbrev word : ℕ
-  word = bitOr up (2 ^ (c - p) - 1)
+  word = bitOr up (firstOf (c - p))
 
   word-at : (j : ℕ) → j < 64 → isMarked word j ≡ holdsOf c m (p + 1 + j)
   word-at j k = elim (decLt j (c - p)) [
-    | yes a ↦ marked-or up (2 ^ (c - p) - 1) j ∙ or-right (isMarked up j) (isMarked (2 ^ (c - p) - 1) j) (first-marked (c - p) j a) ∙ sym (holds-low c m (p + 1 + j) (omega arith))
+    | yes a ↦ marked-or up (firstOf (c - p)) j ∙ or-right (isMarked up j) (isMarked (firstOf (c - p)) j) (first-at (c - p) j k ∙ lt-ltb j (c - p) a) ∙ sym (holds-low c m (p + 1 + j) (omega arith))
     | no a ↦ (let z : j ≡ c - p + (j - (c - p)) = omega arith in
         let y : j - (c - p) ≡ p + 1 + j - (c + 1) = omega arith in
-        marked-or up (2 ^ (c - p) - 1) j
-        ∙ ap (λ (t : Bool). isMarked up j || t) (marked-beyond (c - p) (2 ^ (c - p) - 1) j (ones-lt (c - p)) (omega arith))
+        marked-or up (firstOf (c - p)) j
+        ∙ ap (λ (t : Bool). isMarked up j || t) (first-at (c - p) j k ∙ le-ltb j (c - p) (omega arith))
         ∙ or-false (isMarked up j)
         ∙ marked-cut 64 (m * 2 ^ (c - p)) j k
         ∙ ap (λ (x : ℕ). isMarked (m * 2 ^ (c - p)) x) z
@@ -87,6 +79,5 @@ module _ (p c m : ℕ) (l : p ≤ c) (h : c - p < 64) where
       or-false true = refl
       or-false false = refl
 
-  pub after-among : bitOr up ((1 * 2 ^ (c - p)) % 18446744073709551616 - 1) ≡ heldAfter p c m
-  after-among = rw (one-shifted (c - p) h)
-      (after-is p c m word (or-lt 64 up (2 ^ (c - p) - 1) (mod-lt (m * 2 ^ (c - p)) (pow-pos 64)) (omega (arith, ones-lt (c - p), pow-lt h))) word-at)
+  pub after-among : (f : ℕ) → f ≡ firstOf (c - p) → bitOr up f ≡ heldAfter p c m
+  after-among f e = rw e (after-is p c m word (or-lt 64 up (firstOf (c - p)) (mod-lt (m * 2 ^ (c - p)) (pow-pos 64)) (first-lt (c - p))) word-at)

@@ -3,5 +3,6 @@ pub mod MaskLaws
 pub mod RunLaws
 pub mod HeldLaws
 pub mod SetLaws
+pub mod FirstLaws
 pub mod AfterLaws
 pub mod Unique

@@ -3,7 +3,7 @@ use mathlib.Core.Path.{_≡_}
 use mathlib.Core.Bool.{Bool}
 use Prim.Native.Nat.{ℕ, _/_, _^_, _≤_}
 use Rattle.basics.proofs.Unique.{one-answer}
-use Rattle.marks.specs.Masks.{isMarked, markOf, unmarkOf, runOf, reachOf, isSubset}
+use Rattle.marks.specs.Masks.{isMarked, markOf, unmarkOf, runOf, reachOf, isSubset, amongOf}
 use Rattle.marks.specs.Held.{holdsOf, noneAbove, heldAfter}
 
 pub one-is-marked : (mask b : ℕ) (r z : Bool) → r ≡ isMarked mask b → z ≡ isMarked mask b → r ≡ z
@@ -35,3 +35,6 @@ one-none-above c mask s r z p q = one-answer p q
 
 pub one-held-after : (p c mask r z : ℕ) → r ≡ heldAfter p c mask → z ≡ heldAfter p c mask → r ≡ z
 one-held-after p c mask r z e f = one-answer e f
+
+pub one-among : (mask from to r z : ℕ) → r ≡ amongOf mask from to → z ≡ amongOf mask from to → r ≡ z
+one-among mask from to r z e f = one-answer e f

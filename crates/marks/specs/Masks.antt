@@ -1,6 +1,6 @@
 -- A 64-bit mask as a set of bits. Assumes nothing.
-use mathlib.Core.Bool.{Bool, cond, not, _||_}
-use Prim.Native.Nat.{ℕ, zero, suc, _+_, _-_, _/_, _%_, _^_}
+use mathlib.Core.Bool.{Bool, cond, not, _&&_, _||_}
+use Prim.Native.Nat.{ℕ, zero, suc, _+_, _-_, _/_, _%_, _^_, min}
 use lib.Dec.{eqb, ltb}
 use Rattle.basics.specs.Sums.{allBelow}
 
@@ -43,7 +43,15 @@ reachOf mask = reachIn 64 mask
 unfoldable pub isSubset : ℕ → ℕ → Bool
 isSubset a b = allBelow 64 (λ j. not (isMarked a j) || isMarked b j)
 
+-- the first d of 64 bits
+unfoldable pub firstOf : ℕ → ℕ
+firstOf d = 2 ^ min d 64 - 1
+
 -- the set of the numbers below n that pass a test, a bit for each
 unfoldable pub setBelow : ℕ → (ℕ → Bool) → ℕ
 setBelow zero p = 0
 setBelow (suc n) p = cond (p n) (withMark (setBelow n p) n) (setBelow n p)
+
+-- the bits of a mask from one place up to, and without, another
+unfoldable pub amongOf : ℕ → ℕ → ℕ → ℕ
+amongOf mask from to = setBelow 64 (λ j. isMarked mask j && ltb j to && not (ltb j from))

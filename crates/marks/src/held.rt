@@ -1,4 +1,5 @@
 // What a cumulative number c and a mask say is held.
+use crate::masks::first;
 use crate::masks::is_marked;
 use crate::masks::past;
 use crate::masks::reach;
@@ -44,7 +45,7 @@ pub fn held_after(p: u64, c: u64, mask: u64) -> u64
     }
     let d = c - p;
     if 64 <= d {
-        return 0xffff_ffff_ffff_ffff;
+        return first(d);
     }
-    (mask << d) | ((1u64 << d) - 1)
+    (mask << d) | first(d)
 }

@@ -7,6 +7,7 @@ pub use held::held_after;
 pub use held::highest;
 pub use held::holds;
 pub use held::none_above;
+pub use masks::among;
 pub use masks::is_marked;
 pub use masks::is_subset;
 pub use masks::mark;

@@ -1,7 +1,7 @@
 // A 64-bit mask as a set of bits.
 ghost use mathlib.Core.Path.{_≡_};
 ghost use Prim.Native.Nat.{_/_, _^_, _≤_};
-ghost use Rattle.marks.specs.Masks.{isMarked, markOf, unmarkOf, runOf, reachOf, isSubset};
+ghost use Rattle.marks.specs.Masks.{isMarked, markOf, unmarkOf, runOf, reachOf, isSubset, firstOf, amongOf};
 
 // Whether bit b is marked.
 pub fn is_marked(mask: u64, b: u64) -> bool
@@ -50,4 +50,22 @@ pub fn is_subset(a: u64, b: u64) -> bool
     ensures { λ r. ⌜ r ≡ isSubset a b ⌝ }
 {
     a & !b == 0
+}
+
+// The first d of 64 bits: all of them where d is 64 or more, and no shift is made.
+pub(crate) fn first(d: u64) -> u64
+    ensures { λ r. ⌜ r ≡ firstOf d ⌝ }
+{
+    if d < 64 {
+        (1u64 << d) - 1
+    } else {
+        0xffff_ffff_ffff_ffff
+    }
+}
+
+// The bits of a mask from one place up to, and without, another.
+pub fn among(mask: u64, from: u64, to: u64) -> u64
+    ensures { λ r. ⌜ r ≡ amongOf mask from to ⌝ }
+{
+    mask & first(to) & !first(from)
 }

@@ -1,5 +1,4 @@
 -- The branches are the three places that c has: before p, past all of them, among them.
-use Rattle.marks.proofs.MaskLaws.{one-up}
 use Rattle.marks.proofs.AfterLaws.{after-before, after-all, after-among}
 use borrow.Author.Needs.{needs}
 use Rattle.marks.proofs.held.held_after.Statement.{statement}
@@ -14,17 +13,17 @@ past-requires c κs = search needs
 returns : tie.Need-returns
 returns c = search after-before
 
+first-requires : tie.Need-first-requires
+first-requires c κs = search needs
+
 returns-2 : tie.Need-returns-2
 returns-2 c = search after-all
 
 shl-result : tie.Need-shl-result
 shl-result c = search needs
 
-shl-result-2 : tie.Need-shl-result-2
-shl-result-2 c = search needs
-
-sub-result : tie.Need-sub-result
-sub-result c = search one-up
+first-requires-2 : tie.Need-first-requires-2
+first-requires-2 c κs = search needs
 
 returns-3 : tie.Need-returns-3
 returns-3 c = search after-among
@@ -36,8 +35,8 @@ held-after-spec =
     sub-past
     past-requires
     returns
+    first-requires
     returns-2
     shl-result
-    shl-result-2
-    sub-result
+    first-requires-2
     returns-3)
