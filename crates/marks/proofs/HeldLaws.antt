@@ -5,13 +5,15 @@ use mathlib.Core.Logic.{inl, inr}
 use Prim.Native.Nat.{ℕ, zero, suc, _+_, _-_, _/_, _^_, _≤_, _<_}
 use native.Mathlib.Decide.{decLe}
 use native.Mathlib.Omega.{arith}
-use lib.Dec.{leb}
+use lib.Dec.{leb, eqb}
+use mir.Val.{Fits}
+use mir.Syntax.{w64}
 use borrow.Author.Tests.{le-leb, lt-leb, leb-true}
 use Rattle.basics.proofs.BoolLaws.{bool-cases, no-both, leb-same}
 use Rattle.marks.specs.Masks.{isMarked, runOf, reachOf}
 use Rattle.marks.specs.Held.{holdsOf, highestOf, noneAbove}
 use Rattle.marks.proofs.MaskLaws.{marked-past}
-use Rattle.marks.proofs.RunLaws.{run-marked, reach-above, reach-top}
+use Rattle.marks.proofs.RunLaws.{run-marked, reach-above, reach-top, reach-past}
 
 pub holds-low : (c m k : ℕ) → k ≤ c → holdsOf c m k ≡ true
 unfolding holdsOf
@@ -67,9 +69,12 @@ pub above-at-once : (c m s : ℕ) → s < c → false ≡ noneAbove c m s
 unfolding noneAbove highestOf
 above-at-once c m s l = sym (lt-leb (c + reachOf m) s (omega arith))
 
-pub above-by-reach : (c m s r : ℕ) → c ≤ s → r ≡ reachOf m → leb r (s - c) ≡ noneAbove c m s
+pub above-by-past : (c m s x : ℕ) → Fits w64 m → c ≤ s → x ≡ m / 2 ^ (s - c) → eqb x 0 ≡ noneAbove c m s
 unfolding noneAbove highestOf
-above-by-reach c m s r l e = leb-same r (s - c) (c + reachOf m) s (λ a. omega arith) (λ a. omega arith)
+above-by-past c m s x f l e =
+    ap (λ (y : ℕ). eqb y 0) e
+    ∙ sym (reach-past m (s - c) (f .fits))
+    ∙ leb-same (reachOf m) (s - c) (c + reachOf m) s (λ a. omega arith) (λ a. omega arith)
 
 -- ---- rising over marked bits
 pub holds-risen : (c m d k : ℕ) → d ≤ runOf m → holdsOf (c + d) (m / 2 ^ d) k ≡ holdsOf c m k

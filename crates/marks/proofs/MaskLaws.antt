@@ -15,7 +15,7 @@ use mir.Syntax.{w64}
 use Rattle.basics.proofs.BoolLaws.{either}
 use Rattle.marks.specs.Masks.{isMarked, withMark, withoutMark, markOf, unmarkOf}
 
-half-past : (m b : ℕ) → m / 2 ^ suc b ≡ m / 2 / 2 ^ b
+pub half-past : (m b : ℕ) → m / 2 ^ suc b ≡ m / 2 / 2 ^ b
 half-past m b = ap (λ (e : ℕ). m / 2 ^ e) (sym (one-add b)) ∙ sym (shr-shr m 1 b)
 
 -- ---- one bit lower

@@ -1,17 +1,17 @@
 -- The run of marked bits from bit 0, and the bits up to the highest marked one. Assumes nothing.
-use mathlib.Core.Path.{_≡_, refl, sym, _∙_}
+use mathlib.Core.Path.{_≡_, refl, ap, sym, _∙_}
 use mathlib.Core.Bool.{true, false}
 use Prim.Native.Nat.{ℕ, zero, suc, _+_, _-_, _/_, _%_, _^_, _≤_, _<_, zero-le}
-use native.Mathlib.Nat.{two-pow-succ}
+use native.Mathlib.Nat.{two-pow-succ, div-one, zero-div}
 use native.Mathlib.Omega.{arith}
 use lib.Count.{trailingZeros, leadingZeros, trailing-le}
-use lib.Dec.{eqb, eqb·suc-zero}
-use borrow.Author.Tests.{eq-eqb}
+use lib.Dec.{leb, eqb, leb·suc-suc, leb·suc-zero, eqb·suc-zero}
+use borrow.Author.Tests.{le-leb, eq-eqb}
 use mir.Val.{Fits}
 use mir.Syntax.{w64}
 use Rattle.basics.proofs.BoolLaws.{either, no-both}
 use Rattle.marks.specs.Masks.{isMarked, runIn, runOf, reachIn, reachOf}
-use Rattle.marks.proofs.MaskLaws.{marked-step, marked-low, marked-none}
+use Rattle.marks.proofs.MaskLaws.{half-past, marked-step, marked-low, marked-none}
 
 -- ---- the run
 -- the trailing zeros of a mask's complement are the run of its marked bits
@@ -105,6 +105,19 @@ reach-above m j h e = reach-in-above 64 m j h e
 pub reach-top : (m j : ℕ) → m < 2 ^ 64 → reachOf m ≡ suc j → isMarked m j ≡ true
 unfolding reachOf
 reach-top m j h e = reach-in-top 64 m j h e
+
+-- a mask moved down by d bits is empty where its reach is at most d
+reach-in-past : (n m d : ℕ) → m < 2 ^ n → leb (reachIn n m) d ≡ eqb (m / 2 ^ d) 0
+unfolding reachIn
+reach-in-past zero m d h = let z : m ≡ 0 = omega arith in rw (z, zero-div (2 ^ d), le-leb 0 d zero-le) refl
+reach-in-past (suc n) zero d h = rw (zero-div (2 ^ d), le-leb 0 d zero-le) refl
+reach-in-past (suc n) (suc m) zero h = simp (eqb·suc-zero m) (rw (div-one (suc m), eqb·suc-zero m, leb·suc-zero (reachIn n (suc m / 2))) refl)
+reach-in-past (suc n) (suc m) (suc d) h =
+    simp (eqb·suc-zero m) (leb·suc-suc (reachIn n (suc m / 2)) d ∙ reach-in-past n (suc m / 2) d (omega (arith, two-pow-succ n)) ∙ ap (λ (x : ℕ). eqb x 0) (sym (half-past (suc m) d)))
+
+pub reach-past : (m d : ℕ) → m < 2 ^ 64 → leb (reachOf m) d ≡ eqb (m / 2 ^ d) 0
+unfolding reachOf
+reach-past m d h = reach-in-past 64 m d h
 
 pub reach-told : (m : ℕ) → Fits w64 m → 64 - leadingZeros 64 m ≡ reachOf m
 unfolding reachOf

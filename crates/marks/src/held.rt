@@ -33,7 +33,7 @@ pub fn none_above(c: u64, mask: u64, s: u64) -> bool
     if s < c {
         return false;
     }
-    reach(mask) <= s - c
+    past(mask, s - c) == 0
 }
 
 // What is held of the 64 messages after p: bit o speaks of message p + 1 + o. No shift is made where c is 64 or more past p.
