@@ -32,12 +32,6 @@ unfolding bestOf
 best-turn p v i {b} {x} {r} e f q = rw (add-one, ← e, ← f) q
 
 -- ---- the branches of the code
-pub share-reached : (g v w x r : ℕ) → v ≡ w → g ≤ v → r ≡ x → r ≡ cond (leb g w) x 0
-share-reached g v w x r e l q = simp (le-leb g w (omega arith)) q
-
-pub share-not-reached : (g v w x : ℕ) → v ≡ w → v < g → 0 ≡ cond (leb g w) x 0
-share-not-reached g v w x e l = simp (lt-leb g w (omega arith))
-
 pub not-better : (b v : ℕ) (q : Bool) → v ≤ b → b ≡ cond (ltb b v && q) v b
 not-better b v q l = simp (le-ltb b v l)
 

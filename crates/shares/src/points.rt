@@ -13,26 +13,35 @@ fn value_at(values: &[u64], i: usize) -> u64
     if i < values.len() { values[i] } else { 0 }
 }
 
-// The share of member i where its value is at least g.
-fn reached_share(share: u32, values: &[u64], i: usize, g: u64) -> u64
-    ensures { λ r. ⌜ (r ≡ cond (leb g (getD (now (values .entry)) i 0)) share 0) × (r < 4294967296) ⌝ }
+// The share of a member where its value is at least g.
+fn reached_share(share: u32, value: u64, g: u64) -> u64
+    ensures { λ r. ⌜ (r ≡ cond (leb g value) share 0) × (r < 4294967296) ⌝ }
 {
-    if g <= value_at(values, i) {
-        share as u64
-    } else {
-        0
-    }
+    if g <= value { share as u64 } else { 0 }
 }
 
-// The share of the members whose value is at least g.
+// The share of member i where its value is at least g, a member with none having 0.
+fn share_at(share: u32, values: &[u64], i: usize, g: u64) -> u64
+    ensures { λ r. ⌜ (r ≡ cond (leb g (getD (now (values .entry)) i 0)) share 0) × (r < 4294967296) ⌝ }
+{
+    let value = value_at(values, i);
+    reached_share(share, value, g)
+}
+
+// The share of the members whose value is at least g. Those that have one are gone through first: none of them is asked whether it has.
 fn reached(shares: &[u32], values: &[u64], g: u64) -> u64
     requires { ⌜ length (now shares) ≤ 64 ⌝ }
     ensures { λ r. ⌜ r ≡ reachedOf (now (shares .entry)) (now (values .entry)) g ⌝ }
 {
+    let valued = basics::least(shares.len() as u64, values.len() as u64) as usize;
     let mut sum: u64 = 0;
-    let mut i = 0;
+    let mut i: usize = 0;
+    while i < valued {
+        sum += reached_share(shares[i], values[i], g);
+        i += 1;
+    }
     while i < shares.len() {
-        sum += reached_share(shares[i], values, i, g);
+        sum += share_at(shares[i], values, i, g);
         i += 1;
     }
     sum
