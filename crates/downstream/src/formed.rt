@@ -79,8 +79,10 @@ fn reports_kept(members: u32, reports: [Report; 64], s: u64) -> bool
     kept
 }
 
-// Past the last member that is named nobody is asked, and where none is named nobody at all.
-fn complaints_kept(n: usize, numbers: &[u64; 64], masks: &[u64; 64], k: u64, bits: u64) -> bool
+// Whether a complaint set names only members that exist and lack message k. Past the last member that is named nobody is asked, and where
+// none is named nobody at all.
+// inner: the places are 64.
+pub fn complaints_kept(n: usize, numbers: &[u64; 64], masks: &[u64; 64], k: u64, bits: u64) -> bool
     requires { ⌜ n ≤ 64 ⌝ }
     ensures { λ r. ⌜ r ≡ complaintsKept n (now (numbers .entry)) (now (masks .entry)) k bits ⌝ }
 {
@@ -89,15 +91,7 @@ fn complaints_kept(n: usize, numbers: &[u64; 64], masks: &[u64; 64], k: u64, bit
 }
 
 // Whether the entry of message k is kept: open up to S, and empty above it.
-// inner: the places are 64.
-pub fn entry_kept(
-    n: usize,
-    numbers: &[u64; 64],
-    masks: &[u64; 64],
-    s: u64,
-    k: u64,
-    e: Entry,
-) -> bool
+fn entry_kept(n: usize, numbers: &[u64; 64], masks: &[u64; 64], s: u64, k: u64, e: Entry) -> bool
     requires { ⌜ n ≤ 64 ⌝ }
     ensures { λ r. ⌜ r ≡ entryKept n (now (numbers .entry)) (now (masks .entry)) s k e ⌝ }
 {

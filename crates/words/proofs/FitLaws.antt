@@ -2,7 +2,7 @@
 use mathlib.Core.Path.{_≡_}
 use mathlib.Core.Bool.{Bool, true, _&&_}
 use mathlib.Core.List.{List}
-use Prim.Native.Nat.{ℕ, _+_, _%_, _≤_, _<_}
+use Prim.Native.Nat.{ℕ, _+_, _≤_, _<_}
 use native.Mathlib.Nat.{zero-add}
 use native.Mathlib.Omega.{arith}
 use lib.Dec.{leb}
@@ -52,7 +52,3 @@ module _ (ws : List ℕ) (f : fits ws ≡ true) where
 
   pub r-at : (at : ℕ) → at + 67 ≤ 135 → wordAt ws (at + 2) < 4294967296
   r-at at h = narrow-at (at + 2) (omega arith)
-
-  -- the resend count of the message at offset o from p
-  pub open-count : (p o : ℕ) → wordAt ws (329 + (p + o) % 64) < 4294967296
-  open-count p o = count-at ((p + o) % 64) (omega arith)

@@ -1,7 +1,12 @@
 // The window's state as 457 words of 64 bits: what a unit writes to its disk and reads back after a power cut.
+mod clusters;
+mod entries;
 mod judging;
 mod opening;
+mod point;
+mod reports;
 mod sending;
+mod straight;
 mod taking;
 
 pub use judging::column_at;

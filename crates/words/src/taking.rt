@@ -20,16 +20,6 @@ pub fn none_above(words: &[u64; 457], from: usize, n: usize, most: u64) -> bool
     none
 }
 
-// Whether no word is too large for its field.
-pub(crate) fn fit(words: &[u64; 457]) -> bool
-    ensures { λ r. ⌜ r ≡ fits (now (words .entry)) ⌝ }
-{
-    let clusters = none_above(words, 0, 135, 4_294_967_295);
-    let heard = none_above(words, 265, 64, 1);
-    let counts = none_above(words, 329, 64, 4_294_967_295);
-    clusters & heard & counts
-}
-
 // The 64 shares from a place on.
 fn shares_at(words: &[u64; 457], at: usize) -> [u32; 64]
     requires { ⌜ (at + 64 ≤ 135) × (fits (now words) ≡ true) ⌝ }

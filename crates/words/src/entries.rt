@@ -1,0 +1,98 @@
+// The entries of the open messages, and the places that are not open, judged in the words where they lie. Counts and complaint sets lie in
+// columns of their own, and each is judged by straight passes; only where somebody complains are the sets gone through one by one.
+use crate::judging::column_at;
+use crate::straight::all_zero;
+use crate::straight::any;
+ghost use mathlib.Core.Path.{_≡_};
+ghost use Prim.Native.Nat.{_+_, _≤_, _<_};
+ghost use Rattle.downstream.specs.Formed.{complaintsKept, entriesKept};
+ghost use Rattle.words.specs.Taken.{columnAt, entriesIn};
+ghost use Rattle.words.specs.Entries.{closedZero, countsKept, setAfter, setsTold, setsKept};
+
+// Whether a column of the entries is zero for every message that is not one of the n after p. Their places go round once: what is closed
+// lies before and behind the open ones, or between their two ends.
+fn closed_zero(words: &[u64; 457], at: usize, p: u64, n: usize) -> bool
+    requires { ⌜ (at + 64 ≤ 457) × (n ≤ 64) ⌝ }
+    ensures { λ r. ⌜ r ≡ closedZero (now (words .entry)) at p n ⌝ }
+{
+    let first = (p % 64) as usize;
+    let end = first + n;
+    if end <= 64 {
+        let before = all_zero(words, at, first);
+        let behind = all_zero(words, at + end, 64 - end);
+        before & behind
+    } else {
+        all_zero(words, at + end - 64, 64 - n)
+    }
+}
+
+// Whether the resend counts of the n messages after p are at most 255, and all others 0.
+fn counts_kept(words: &[u64; 457], p: u64, n: usize) -> bool
+    requires { ⌜ n ≤ 64 ⌝ }
+    ensures { λ r. ⌜ r ≡ countsKept (now (words .entry)) p n ⌝ }
+{
+    let small = any(words, 329, 64) <= 255;
+    let closed = closed_zero(words, 329, p, n);
+    small & closed
+}
+
+// Whether the complaint set of message p + 1 + o names only members that exist and lack the message.
+fn set_told(
+    words: &[u64; 457],
+    members: usize,
+    numbers: &[u64; 64],
+    masks: &[u64; 64],
+    p: u64,
+    o: usize,
+) -> bool
+    requires { ⌜ (members ≤ 64) × (p ≤ 1000000000000) × (o < 64) ⌝ }
+    ensures { λ r. ⌜ r ≡ complaintsKept members (now (numbers .entry)) (now (masks .entry)) (p + 1 + o) (setAfter (now (words .entry)) p o) ⌝ }
+{
+    let k = p + 1 + o as u64;
+    let at = ((p + o as u64) % 64) as usize;
+    downstream::complaints_kept(members, numbers, masks, k, words[393 + at])
+}
+
+// Whether the complaint sets of the n messages after p do.
+fn sets_told(words: &[u64; 457], members: usize, p: u64, n: usize) -> bool
+    requires { ⌜ (members ≤ 64) × (p ≤ 1000000000000) × (n ≤ 64) ⌝ }
+    ensures { λ r. ⌜ r ≡ setsTold (now (words .entry)) members p n ⌝ }
+{
+    let numbers = column_at(words, 137);
+    let masks = column_at(words, 201);
+    let mut kept = true;
+    let mut o: usize = 0;
+    while o < n {
+        kept = kept & set_told(words, members, &numbers, &masks, p, o);
+        o += 1;
+    }
+    kept
+}
+
+// Whether the complaint sets of the n messages after p do, and all others are empty.
+fn sets_kept(words: &[u64; 457], members: usize, p: u64, n: usize) -> bool
+    requires { ⌜ (members ≤ 64) × (p ≤ 1000000000000) × (n ≤ 64) ⌝ }
+    ensures { λ r. ⌜ r ≡ setsKept (now (words .entry)) members p n ⌝ }
+{
+    if all_zero(words, 393, 64) {
+        return true;
+    }
+    if !closed_zero(words, 393, p, n) {
+        return false;
+    }
+    sets_told(words, members, p, n)
+}
+
+// Whether the entries are kept, p + 1 to s being open. Where all are empty there is nothing more to ask.
+pub(crate) fn entries_kept(words: &[u64; 457], members: usize, p: u64, s: u64) -> bool
+    requires { ⌜ (members ≤ 64) × (p ≤ 1000000000000) × (p ≤ s) × (s ≤ p + 64) ⌝ }
+    ensures { λ r. ⌜ r ≡ entriesKept members (columnAt (now (words .entry)) 137) (columnAt (now (words .entry)) 201) (entriesIn (now (words .entry))) p s ⌝ }
+{
+    if all_zero(words, 329, 128) {
+        return true;
+    }
+    let n = (s - p) as usize;
+    let counts = counts_kept(words, p, n);
+    let sets = sets_kept(words, members, p, n);
+    counts & sets
+}

@@ -1,0 +1,43 @@
+// Whether p is the point that the members' numbers give, asked in the words where they lie.
+use crate::clusters::share_at;
+ghost use mathlib.Core.Path.{_≡_};
+ghost use mathlib.Core.Bool.{true, cond};
+ghost use Prim.Native.Nat.{_+_, _≤_, _<_};
+ghost use lib.Dec.{leb, eqb};
+ghost use lib.ListN.{take};
+ghost use Rattle.shares.specs.Point.{reachedOf, pointOf};
+ghost use Rattle.words.specs.Taken.{wordAt, noneAbove, columnAt};
+
+// The share of member i where its number is at least g.
+fn reached_share(words: &[u64; 457], n: usize, g: u64, i: usize) -> u64
+    requires { ⌜ (i < n) × (n ≤ 64) × (noneAbove (now words) 70 n 4294967295 ≡ true) ⌝ }
+    ensures { λ r. ⌜ (r ≡ cond (leb g (wordAt (now (words .entry)) (137 + i))) (wordAt (now (words .entry)) (70 + i)) 0) × (r ≤ 4294967295) ⌝ }
+{
+    let share = share_at(words, 70, n, i);
+    if g <= words[137 + i] { share } else { 0 }
+}
+
+// The share of the n members whose number is at least g.
+fn reached(words: &[u64; 457], n: usize, g: u64) -> u64
+    requires { ⌜ (n ≤ 64) × (noneAbove (now words) 70 n 4294967295 ≡ true) ⌝ }
+    ensures { λ r. ⌜ r ≡ reachedOf (take n (columnAt (now (words .entry)) 70)) (columnAt (now (words .entry)) 137) g ⌝ }
+{
+    let mut sum: u64 = 0;
+    let mut i: usize = 0;
+    while i < n {
+        sum += reached_share(words, n, g, i);
+        i += 1;
+    }
+    sum
+}
+
+// Whether p is the largest number that members of share u + 1 or more reach: it is reached, or is 0, and the next number is not.
+pub(crate) fn point_kept(words: &[u64; 457], n: usize, p: u64) -> bool
+    requires { ⌜ (n ≤ 64) × (noneAbove (now words) 70 n 4294967295 ≡ true) × (wordAt (now words) 68 ≤ 4294967295) × (p ≤ 1000000000000) ⌝ }
+    ensures { λ r. ⌜ r ≡ eqb p (pointOf (take n (columnAt (now (words .entry)) 70)) (columnAt (now (words .entry)) 137) (wordAt (now (words .entry)) 68 + 1)) ⌝ }
+{
+    let t = words[68] + 1;
+    let here = reached(words, n, p);
+    let next = reached(words, n, p + 1);
+    ((p == 0) | (t <= here)) & (next < t)
+}
