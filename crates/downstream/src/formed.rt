@@ -81,8 +81,13 @@ fn reports_kept(members: u32, reports: [Report; 64], s: u64) -> bool
 
 // Whether a complaint set names only members that exist and lack message k. Past the last member that is named nobody is asked, and where
 // none is named nobody at all.
-// inner: the places are 64.
-pub fn complaints_kept(n: usize, numbers: &[u64; 64], masks: &[u64; 64], k: u64, bits: u64) -> bool
+pub(crate) fn complaints_kept(
+    n: usize,
+    numbers: &[u64; 64],
+    masks: &[u64; 64],
+    k: u64,
+    bits: u64,
+) -> bool
     requires { ⌜ n ≤ 64 ⌝ }
     ensures { λ r. ⌜ r ≡ complaintsKept n (now (numbers .entry)) (now (masks .entry)) k bits ⌝ }
 {

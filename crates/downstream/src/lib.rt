@@ -2,6 +2,8 @@
 // it is well formed.
 mod columns;
 mod formed;
+mod rows;
+mod sets;
 mod state;
 
 pub use columns::complaints_of;
@@ -10,12 +12,14 @@ pub use columns::lacking;
 pub use columns::masks_of;
 pub use columns::numbers_of;
 pub use formed::cluster_kept;
-pub use formed::complaints_kept;
 pub use formed::downstream_kept;
 pub use formed::point_from;
 pub use formed::point_kept;
 pub use formed::report_kept;
 pub use formed::span_kept;
+pub use rows::changes;
+pub use rows::fill_held;
+pub use sets::all_complaints_kept;
 pub use state::Cluster;
 pub use state::Downstream;
 pub use state::Entry;

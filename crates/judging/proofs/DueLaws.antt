@@ -1,16 +1,15 @@
 -- A verdict is due where enough complain of a message and too few hold it, from what the code knows where it answers. Assumes nothing.
 use mathlib.Core.Path.{_≡_, refl, ap, ap₂, sym, _∙_}
 use mathlib.Core.Bool.{Bool, true, false, not, _&&_}
-use mathlib.Core.List.{List, _++_}
+use mathlib.Core.List.{List}
 use Prim.Native.Nat.{ℕ, _+_, _≤_, _<_}
 use native.Mathlib.Decide.{decLe}
 use native.Mathlib.Omega.{arith}
 use lib.Dec.{leb, ltb}
-use lib.ListN.{length, getD, take, drop}
-use lib.Seq.{take-at, length-take-le}
+use lib.ListN.{length, getD}
 use borrow.Author.Tests.{le-leb, lt-leb, lt-ltb}
 use Rattle.basics.proofs.BoolLaws.{and-not-left}
-use Rattle.basics.proofs.SumLaws.{length-list, list-at}
+use Rattle.basics.proofs.SumLaws.{list-at}
 use Rattle.marks.specs.Masks.{isMarked, setBelow}
 use Rattle.marks.specs.Held.{heldAfter}
 use Rattle.marks.proofs.MaskLaws.{marked-none}
@@ -19,7 +18,8 @@ use Rattle.marks.proofs.AfterLaws.{after-at}
 use Rattle.shares.specs.Shares.{shareOf}
 use Rattle.shares.proofs.ShareLaws.{share-same}
 use Rattle.downstream.specs.State.{placeAfter, heldBy, isQuacked}
-use Rattle.judging.specs.Verdicts.{isDue, enoughAgainst, nobodyComplains, heldRows, holdingShare, isLost}
+use Rattle.downstream.specs.Rows.{heldRows}
+use Rattle.judging.specs.Verdicts.{isDue, enoughAgainst, nobodyComplains, holdingShare, isLost}
 use Rattle.judging.proofs.AgainstLaws.{none-against}
 
 not-reached : (u s : ℕ) → not (leb (u + 1) s) ≡ leb s u
@@ -72,15 +72,3 @@ module _ (shares : List ℕ) (u r : ℕ) (numbers masks counts complaints : List
       unfolding isLost
       due-told lost f = f ∙ set-cong (isLost shares u rows enough) dueOne n (λ o l.
           ap₂ (λ (b : Bool) (s : ℕ). b && leb s u) (asked o l) (holders o (omega arith)) ∙ sym (in-parts o))
-
--- ---- the words in a local array, cut to the members
-module _ (numbers masks : List ℕ) (p n : ℕ) (places z : List ℕ) (e : places ≡ heldRows numbers masks p n ++ drop n z) where
-  length-rows : length (heldRows numbers masks p n) ≡ n
-  unfolding heldRows
-  length-rows = length-list (λ i. heldAfter p (getD numbers i 0) (getD masks i 0)) n
-
-  pub rows-cut : take n places ≡ heldRows numbers masks p n
-  rows-cut = ap (take n) e ∙ take-at (heldRows numbers masks p n) (drop n z) n length-rows
-
-pub rows-long : (n : ℕ) (places : List ℕ) → n ≤ 64 → length places ≡ 64 → length (take n places) ≡ n
-rows-long n places a b = length-take-le n places (omega arith)

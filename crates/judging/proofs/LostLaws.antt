@@ -1,82 +1,29 @@
 -- Which messages too few members hold, by what each member holds after p as one word. Assumes nothing.
 use mathlib.Core.Path.{_≡_, refl, ap, ap₂, sym, _∙_}
 use mathlib.Core.Bool.{Bool, true, false, cond, not, _&&_, _||_}
-use mathlib.Core.List.{List, _++_}
+use mathlib.Core.List.{List}
 use mathlib.Core.Logic.{inl, inr}
 use Prim.Native.Nat.{ℕ, zero, suc, _+_, _-_, _/_, _^_, _≤_, _<_, min}
 use native.Mathlib.Nat.{add-zero}
 use native.Mathlib.Decide.{decLt}
 use native.Mathlib.Omega.{arith}
-use lib.Bits.{bitOr, bitXor, or-lt}
+use lib.Bits.{bitOr, or-lt}
 use lib.Dec.{leb, ltb}
 use lib.Pow.{shr-le, pow-mono}
 use borrow.Author.Tests.{le-leb, lt-ltb, le-ltb, not-true}
 use mir.Val.{Fits}
 use mir.Syntax.{w64}
-use lib.ListN.{length, getD, drop, set}
-use Rattle.basics.proofs.BoolLaws.{bool-cases, no-both, or-left, or-right, and-not-right}
-use Rattle.basics.proofs.SumLaws.{list-start, list-turn}
+use lib.ListN.{length, getD, set}
+use Rattle.basics.proofs.BoolLaws.{bool-cases, and-not-right}
 use Rattle.marks.specs.Masks.{isMarked, setBelow, runOf, amongOf}
-use Rattle.marks.specs.Held.{heldAfter}
 use Rattle.marks.proofs.MaskLaws.{marked-past, marked-beyond, same-marks}
-use Rattle.marks.proofs.SetLaws.{marked-or, marked-xor, marked-not, marked-set, set-lt}
+use Rattle.marks.proofs.SetLaws.{marked-or, marked-not, marked-set, set-lt}
 use Rattle.marks.proofs.RunLaws.{run-marked}
 use Rattle.marks.proofs.FirstLaws.{among-at, among-lt}
 use Rattle.shares.specs.Shares.{shareOf}
 use Rattle.shares.proofs.ShareLaws.{share-same}
-use Rattle.judging.specs.Verdicts.{heldRows, holdingShare, Steady, SteadyUntil, isLost}
-
--- ---- the words are filled in from the front
-module _ (numbers masks : List ℕ) (p : ℕ) where
-  abbrev word : ℕ → ℕ
-  word i = heldAfter p (getD numbers i 0) (getD masks i 0)
-
-  pub rows-start : (o : List ℕ) → o ≡ heldRows numbers masks p 0 ++ drop 0 o
-  unfolding heldRows
-  rows-start o = list-start word o
-
-  pub rows-turn : (i n v : ℕ) (l o : List ℕ) → l ≡ heldRows numbers masks p i ++ drop i o → i < n → n ≤ length o → length l ≡ length o
-      → v ≡ heldAfter p (getD numbers i 0) (getD masks i 0) → set l i v ≡ heldRows numbers masks p (i + 1) ++ drop (i + 1) o
-  unfolding heldRows
-  rows-turn i n v l o e h m k q = list-turn word {i = i} {v = v} {l = l} o e (omega arith) k q
-
-  pub rows-done : (i n : ℕ) (l o : List ℕ) → l ≡ heldRows numbers masks p i ++ drop i o → i ≤ n → n ≤ i → l ≡ heldRows numbers masks p n ++ drop n o
-  rows-done i n l o e a b = let z : i ≡ n = omega arith in rw z at e
-
--- ---- where a word changes
-module _ (rows : List ℕ) where
-  pub steady-start : Steady rows 0 0
-  steady-start = record { same = λ i j l e. absurd (omega arith) }
-
-  pub steady-turn : (n s : ℕ) → Steady rows n s → Steady rows (n + 1) (bitOr s (bitXor (getD rows n 0) (getD rows n 0 / 2)))
-  steady-turn n s h = record {
-    same = λ i j l e. elim (decLt i n) [
-      | yes k ↦ h .same i j k (left j e)
-      | no k ↦ (let z : i ≡ n = omega arith in
-          rw z (sym (marked-xor (getD rows n 0) (getD rows n 0 / 2) j (right j e) ∙ marked-past (getD rows n 0) 1 j ∙ ap (isMarked (getD rows n 0)) (next j))))
-    ];
-  }
-    where
-      change : ℕ
-      change = bitXor (getD rows n 0) (getD rows n 0 / 2)
-
-      next : (j : ℕ) → 1 + j ≡ j + 1
-      next j = omega arith
-
-      left : (j : ℕ) → isMarked (bitOr s change) j ≡ false → isMarked s j ≡ false
-      left j e = elim (bool-cases (isMarked s j)) [
-        | inl t ↦ no-both (marked-or s change j ∙ or-left (isMarked s j) (isMarked change j) t) e
-        | inr t ↦ t
-      ]
-
-      right : (j : ℕ) → isMarked (bitOr s change) j ≡ false → isMarked change j ≡ false
-      right j e = elim (bool-cases (isMarked change j)) [
-        | inl t ↦ no-both (marked-or s change j ∙ or-right (isMarked s j) (isMarked change j) t) e
-        | inr t ↦ t
-      ]
-
-  pub steady-done : (i n s : ℕ) → Steady rows i s → i ≤ n → n ≤ i → Steady rows n s
-  steady-done i n s h a b = let z : i ≡ n = omega arith in rw z at h
+use Rattle.downstream.specs.Rows.{Steady}
+use Rattle.judging.specs.Verdicts.{holdingShare, SteadyUntil, isLost}
 
 -- ---- how far no word changes
 pub steady-found : (set o n w still r : ℕ) → Fits w64 set → o < n → n ≤ 64 → w ≡ set / 2 ^ o → still ≡ runOf (18446744073709551615 - w) → r ≡ min (o + still + 1) n → SteadyUntil set o n r

@@ -5,9 +5,8 @@ use mathlib.Core.List.{List}
 use Prim.Native.Nat.{ℕ, _+_, _-_, _≤_, _<_}
 use lib.Dec.{leb, ltb, eqb}
 use lib.ListN.{getD}
-use Rattle.basics.specs.Sums.{allBelow, listBelow}
+use Rattle.basics.specs.Sums.{allBelow}
 use Rattle.marks.specs.Masks.{isMarked, setBelow}
-use Rattle.marks.specs.Held.{heldAfter}
 use Rattle.shares.specs.Shares.{shareOf}
 use Rattle.downstream.specs.declared.state.Entry.{Entry}
 use Rattle.downstream.specs.declared.state.Downstream.{Downstream}
@@ -31,17 +30,9 @@ enoughAgainst shares r counts complaints p o =
 unfoldable pub nobodyComplains : List ℕ → ℕ → Bool
 nobodyComplains complaints n = allBelow n (λ j. eqb (getD complaints j 0) 0)
 
--- what each of the first n members holds of the 64 messages after p
-unfoldable pub heldRows : List ℕ → List ℕ → ℕ → ℕ → List ℕ
-heldRows numbers masks p n = listBelow n (λ i. heldAfter p (getD numbers i 0) (getD masks i 0))
-
 -- the share of the members whose word has bit o
 unfoldable pub holdingShare : List ℕ → List ℕ → ℕ → ℕ
 holdingShare shares rows o = shareOf shares (λ i. isMarked (getD rows i 0) o)
-
--- where a set does not have j, none of the first n words changes from bit j to the next
-pub record Steady (rows : List ℕ) (n set : ℕ) : Type 0 where
-  pub same : (i j : ℕ) → i < n → isMarked set j ≡ false → isMarked (getD rows i 0) (j + 1) ≡ isMarked (getD rows i 0) j
 
 -- from offset o on, up to and without r, which is at most n, a set of changes has none
 pub record SteadyUntil (set o n r : ℕ) : Type 0 where

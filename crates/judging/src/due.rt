@@ -1,12 +1,12 @@
 // Judging the open messages: which verdicts are due, and what they change.
 use crate::against::enough_among;
 use crate::against::nobody_complains;
-use crate::lost::fill_held;
 use crate::lost::lost_among;
 use downstream::Downstream;
 use downstream::Entry;
 use downstream::complaints_of;
 use downstream::counts_of;
+use downstream::fill_held;
 use downstream::masks_of;
 use downstream::numbers_of;
 ghost use mathlib.Core.Path.{_≡_};

@@ -1,40 +1,14 @@
 // Which of the messages that enough members complain of too few hold: the dear question, asked by what each member holds after p as one
 // word.
+use downstream::changes;
 ghost use mathlib.Core.Path.{_≡_};
 ghost use mathlib.Core.Bool.{cond};
-ghost use mathlib.Core.List.{_++_};
 ghost use Prim.Native.Nat.{_≤_, _<_};
 ghost use lib.Bits.{bitOr};
 ghost use lib.Dec.{leb};
-ghost use lib.ListN.{length, drop};
+ghost use lib.ListN.{length};
 ghost use Rattle.marks.specs.Masks.{setBelow, amongOf};
-ghost use Rattle.judging.specs.Verdicts.{heldRows, Steady, SteadyUntil, isLost};
-
-// Fills the first n places with what each member holds of the 64 messages after p.
-pub(crate) fn fill_held(out: &mut [u64], numbers: &[u64; 64], masks: &[u64; 64], p: u64, n: usize)
-    requires { ⌜ (n ≤ 64) × (n ≤ length (now out)) ⌝ }
-    ensures { λ _. ⌜ now (out .exit) ≡ heldRows (now (numbers .entry)) (now (masks .entry)) p n ++ drop n (now (out .entry)) ⌝ }
-{
-    let mut i: usize = 0;
-    while i < n {
-        out[i] = marks::held_after(p, numbers[i], masks[i]);
-        i += 1;
-    }
-}
-
-// The offsets after which some word changes.
-fn changes(rows: &[u64]) -> u64
-    ensures { λ r. ⌜ Steady (now (rows .entry)) (length (now (rows .entry))) r ⌝ }
-{
-    let mut set: u64 = 0;
-    let mut i = 0;
-    while i < rows.len() {
-        let row = rows[i];
-        set = set | (row ^ (row >> 1));
-        i += 1;
-    }
-    set
-}
+ghost use Rattle.judging.specs.Verdicts.{SteadyUntil, isLost};
 
 // Up to where, from offset o on, no word changes: without this offset, which is at most n.
 fn steady_until(changing: u64, o: u64, n: u64) -> u64

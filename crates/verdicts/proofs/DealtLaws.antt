@@ -1,5 +1,5 @@
 -- The messages' slots, dealt one after another: who sent each message first. Assumes nothing.
-use mathlib.Core.Path.{_≡_, refl, ap, sym, _∙_}
+use mathlib.Core.Path.{_≡_, ap, _∙_}
 use mathlib.Core.List.{List}
 use Prim.Native.Nat.{ℕ, _+_, _-_, _%_, _≤_, _<_}
 use native.Mathlib.Nat.{mod-lt, mod-add-mod}
@@ -7,7 +7,7 @@ use native.Mathlib.Omega.{arith}
 use lib.ListN.{length}
 use mir.Val.{Fits}
 use mir.Syntax.{w32}
-use Rattle.hamilton.specs.Hamilton.{countsOf, Dealable}
+use Rattle.hamilton.specs.Hamilton.{countsOf}
 use Rattle.hamilton.proofs.JudgeLaws.{length-counts}
 use Rattle.deal.specs.Rounds.{slotsBefore, ownerOf}
 use Rattle.deal.specs.Pairs.{senderOf}

@@ -15,6 +15,7 @@ use Rattle.basics.proofs.SumLaws.{all-at, all-of, all-cong, list-at}
 use Rattle.marks.specs.Masks.{isMarked}
 use Rattle.marks.proofs.MaskLaws.{marked-none}
 use Rattle.downstream.specs.State.{noEntry, placeAfter, offsetAt, heldBy}
+use Rattle.downstream.specs.Rows.{allComplaintsKept}
 use Rattle.downstream.specs.Formed.{complaintsKept, entryKept, entriesKept}
 use Rattle.words.specs.Taken.{wordAt, noneAbove, columnAt, entryIn, entriesIn}
 use Rattle.words.specs.Entries.{closedZero, countAfter, countsKept, setAfter, setsTold, setsKept}
@@ -152,13 +153,12 @@ module _ (ws : List ℕ) (members p : ℕ) where
   abbrev told : ℕ → Bool
   told o = complaintsKept members (columnAt ws 137) (columnAt ws 201) (p + 1 + o) (setAfter ws p o)
 
-  -- the loop that goes through them, numbers and masks being copied
-  pub told-done : (numbers masks : List ℕ) (o n : ℕ) (kept : Bool) → numbers ≡ columnAt ws 137 → masks ≡ columnAt ws 201
-      → kept ≡ allBelow o (λ j. complaintsKept members numbers masks (p + 1 + j) (wordAt ws (393 + placeAfter p j))) → o ≤ n → n ≤ o → kept ≡ setsTold ws members p n
-  unfolding setsTold
-  told-done numbers masks o n kept en em e a b =
-      let z : o ≡ n = omega arith in
-      e ∙ rw (en, em, z) refl
+  -- numbers, masks and sets being copied
+  pub told-done : (numbers masks complaints : List ℕ) (n : ℕ) (kept : Bool) → numbers ≡ columnAt ws 137 → masks ≡ columnAt ws 201 → complaints ≡ columnAt ws 393
+      → kept ≡ allComplaintsKept members numbers masks complaints p n → kept ≡ setsTold ws members p n
+  unfolding setsTold allComplaintsKept columnAt
+  told-done numbers masks complaints n kept en em ec e =
+      e ∙ rw (en, em, ec) (all-cong _ told n (λ o l. ap (complaintsKept members (columnAt ws 137) (columnAt ws 201) (p + 1 + o)) (list-at (λ i. wordAt ws (393 + i)) 0 64 (placeAfter p o) (omega arith))))
 
   module _ (n : ℕ) where
     abbrev setKept : ℕ → Bool

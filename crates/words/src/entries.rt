@@ -5,9 +5,9 @@ use crate::straight::all_zero;
 use crate::straight::any;
 ghost use mathlib.Core.Path.{_≡_};
 ghost use Prim.Native.Nat.{_+_, _≤_, _<_};
-ghost use Rattle.downstream.specs.Formed.{complaintsKept, entriesKept};
+ghost use Rattle.downstream.specs.Formed.{entriesKept};
 ghost use Rattle.words.specs.Taken.{columnAt, entriesIn};
-ghost use Rattle.words.specs.Entries.{closedZero, countsKept, setAfter, setsTold, setsKept};
+ghost use Rattle.words.specs.Entries.{closedZero, countsKept, setsTold, setsKept};
 
 // Whether a column of the entries is zero for every message that is not one of the n after p. Their places go round once: what is closed
 // lies before and behind the open ones, or between their two ends.
@@ -36,37 +36,15 @@ fn counts_kept(words: &[u64; 457], p: u64, n: usize) -> bool
     small & closed
 }
 
-// Whether the complaint set of message p + 1 + o names only members that exist and lack the message.
-fn set_told(
-    words: &[u64; 457],
-    members: usize,
-    numbers: &[u64; 64],
-    masks: &[u64; 64],
-    p: u64,
-    o: usize,
-) -> bool
-    requires { ⌜ (members ≤ 64) × (p ≤ 1000000000000) × (o < 64) ⌝ }
-    ensures { λ r. ⌜ r ≡ complaintsKept members (now (numbers .entry)) (now (masks .entry)) (p + 1 + o) (setAfter (now (words .entry)) p o) ⌝ }
-{
-    let k = p + 1 + o as u64;
-    let at = ((p + o as u64) % 64) as usize;
-    downstream::complaints_kept(members, numbers, masks, k, words[393 + at])
-}
-
-// Whether the complaint sets of the n messages after p do.
+// Whether the complaint sets of the n messages after p name only members that exist and lack the message.
 fn sets_told(words: &[u64; 457], members: usize, p: u64, n: usize) -> bool
     requires { ⌜ (members ≤ 64) × (p ≤ 1000000000000) × (n ≤ 64) ⌝ }
     ensures { λ r. ⌜ r ≡ setsTold (now (words .entry)) members p n ⌝ }
 {
     let numbers = column_at(words, 137);
     let masks = column_at(words, 201);
-    let mut kept = true;
-    let mut o: usize = 0;
-    while o < n {
-        kept = kept & set_told(words, members, &numbers, &masks, p, o);
-        o += 1;
-    }
-    kept
+    let complaints = column_at(words, 393);
+    downstream::all_complaints_kept(members, &numbers, &masks, &complaints, p, n as u64)
 }
 
 // Whether the complaint sets of the n messages after p do, and all others are empty.

@@ -1,7 +1,8 @@
 -- Each return answers by the questions that were asked up to it.
 use lib.ListN.{length}
 use Rattle.downstream.proofs.FormedLaws.{prefixes}
-use Rattle.judging.proofs.DueLaws.{nobody-due, none-due, rows-cut, rows-long, due-told}
+use Rattle.downstream.proofs.RowLaws.{rows-cut, rows-long}
+use Rattle.judging.proofs.DueLaws.{nobody-due, none-due, due-told}
 use borrow.Author.Needs.{needs}
 use Rattle.judging.proofs.due.due_among.Statement.{statement}
 use Rattle.judging.proofs.due.due_among.Tie as tie

@@ -4,7 +4,8 @@ use mathlib.Core.Path.{_≡_}
 use lib.ListN.{length}
 use Rattle.marks.specs.Masks.{setBelow}
 use Rattle.marks.proofs.SetLaws.{set-start, set-done}
-use Rattle.judging.specs.Verdicts.{Steady, isLost}
+use Rattle.downstream.specs.Rows.{Steady}
+use Rattle.judging.specs.Verdicts.{isLost}
 use Rattle.judging.proofs.LostLaws.{lost-turn}
 use borrow.Author.Needs.{needs}
 use Rattle.judging.proofs.lost.lost_among.Statement.{statement}

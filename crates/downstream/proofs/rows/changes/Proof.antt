@@ -1,11 +1,11 @@
 -- The invariant: where the set has no bit, none of the words before place i changes.
 use Prim.Native.Nat.{_≤_, _-_}
 use lib.ListN.{length}
-use Rattle.judging.specs.Verdicts.{Steady}
-use Rattle.judging.proofs.LostLaws.{steady-start, steady-turn, steady-done}
+use Rattle.downstream.specs.Rows.{Steady}
+use Rattle.downstream.proofs.RowLaws.{steady-start, steady-turn, steady-done}
 use borrow.Author.Needs.{needs}
-use Rattle.judging.proofs.lost.changes.Statement.{statement}
-use Rattle.judging.proofs.lost.changes.Tie as tie
+use Rattle.downstream.proofs.rows.changes.Statement.{statement}
+use Rattle.downstream.proofs.rows.changes.Tie as tie
 
 abbrev Inv-loop : tie.InvT-loop
 Inv-loop rows set₀ i₀ set i = (i ≤ length rows) × Steady rows i set

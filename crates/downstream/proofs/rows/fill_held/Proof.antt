@@ -3,11 +3,11 @@ use Prim.Native.Nat.{_≤_, _-_}
 use mathlib.Core.Path.{_≡_}
 use mathlib.Core.List.{_++_}
 use lib.ListN.{length, drop}
-use Rattle.judging.specs.Verdicts.{heldRows}
-use Rattle.judging.proofs.LostLaws.{rows-start, rows-turn, rows-done}
+use Rattle.downstream.specs.Rows.{heldRows}
+use Rattle.downstream.proofs.RowLaws.{rows-start, rows-turn, rows-done}
 use borrow.Author.Needs.{needs}
-use Rattle.judging.proofs.lost.fill_held.Statement.{statement}
-use Rattle.judging.proofs.lost.fill_held.Tie as tie
+use Rattle.downstream.proofs.rows.fill_held.Statement.{statement}
+use Rattle.downstream.proofs.rows.fill_held.Tie as tie
 
 abbrev Inv-loop : tie.InvT-loop
 Inv-loop out₀ numbers masks p n i₀ out i = (i ≤ n) × (n ≤ 64) × (n ≤ length out₀) × (length out ≡ length out₀) × (out ≡ heldRows numbers masks p i ++ drop i out₀)
