@@ -20,8 +20,7 @@ pub struct Hearing {
 }
 
 // The complaint set of message k after the report.
-// inner: near the end of 64 bits there is no number after the highest.
-pub fn complaints_after(h: Hearing, p: u64, k: u64, bits: u64) -> u64
+fn complaints_after(h: Hearing, p: u64, k: u64, bits: u64) -> u64
     requires { ⌜ (h .highest ≡ highestOf (h .number) (h .mask)) × (h .number ≤ 1000000000000) ⌝ }
     ensures { λ r. ⌜ r ≡ complaintsAfter (h .member) (h .number) (h .mask) (h .again) p k bits ⌝ }
 {

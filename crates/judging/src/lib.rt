@@ -6,7 +6,6 @@ mod lost;
 mod reports;
 
 pub use complaints::Hearing;
-pub use complaints::complaints_after;
 pub use complaints::taken;
 pub use due::due_among;
 pub use due::due_set;

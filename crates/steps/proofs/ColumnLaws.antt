@@ -2,12 +2,11 @@
 use mathlib.Core.Path.{_≡_, sym, _∙_}
 use mathlib.Core.Bool.{Bool, true, false, cond}
 use mathlib.Core.List.{List}
-use Prim.Native.Nat.{ℕ, _+_, _≤_, _<_}
+use Prim.Native.Nat.{ℕ, _≤_, _<_}
 use lib.Dec.{ltb}
 use lib.ListN.{getD}
 use borrow.Author.Tests.{lt-ltb, le-ltb}
-use Rattle.marks.specs.Masks.{isMarked}
-use Rattle.judging.specs.Complaints.{complaintsAfter}
+use Rattle.marks.specs.Masks.{isMarked, markOf, unmarkOf}
 use Rattle.steps.specs.Columns.{small}
 
 -- the offset of a place, as it was worked out
@@ -18,8 +17,9 @@ module _ (o e : ℕ) (q : o ≡ e) where
   pub closed-word : (n x : ℕ) → n ≤ o → 0 ≡ cond (ltb e n) x 0
   closed-word n x l = rw (← q) (simp (le-ltb o n l))
 
-  pub heard-word : (n i c mask : ℕ) (again : Bool) (p bits r : ℕ) → r ≡ complaintsAfter i c mask again p (p + 1 + o) bits → o < n → r ≡ cond (ltb e n) (complaintsAfter i c mask again p (p + 1 + e) bits) 0
-  heard-word n i c mask again p bits r h l = h ∙ rw (← q) (simp (lt-ltb o n l))
+  pub heard-word : (n i held missing bits : ℕ) (a b : Bool) (r : ℕ) → r ≡ cond a (unmarkOf bits i) (cond b (markOf bits i) bits) → a ≡ isMarked held o → b ≡ isMarked missing o → o < n
+      → r ≡ cond (ltb e n) (cond (isMarked held e) (unmarkOf bits i) (cond (isMarked missing e) (markOf bits i) bits)) 0
+  heard-word n i held missing bits a b r h ea eb l = h ∙ rw (ea, eb, ← q) (simp (lt-ltb o n l))
 
   module _ (due : ℕ) (b : Bool) (h : b ≡ isMarked due o) where
     pub due-word : (x y : ℕ) → b ≡ true → x ≡ cond (isMarked due e) x y

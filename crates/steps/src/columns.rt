@@ -1,18 +1,15 @@
 // The columns of the entries as a report changes them.
-use judging::Hearing;
 ghost use mathlib.Core.Path.{_≡_};
 ghost use mathlib.Core.Bool.{cond};
 ghost use Prim.Native.Nat.{_+_, _≤_, _<_};
 ghost use lib.Dec.{ltb};
 ghost use Rattle.marks.specs.Masks.{isMarked};
-ghost use Rattle.marks.specs.Held.{highestOf};
 ghost use Rattle.downstream.specs.State.{offsetAt};
-ghost use Rattle.judging.specs.Complaints.{complaintsAfter};
 ghost use Rattle.words.specs.Taken.{wordAt};
-ghost use Rattle.steps.specs.Columns.{countsAfter, heardAfter, small, raisedCounts, emptiedSets};
+ghost use Rattle.steps.specs.Columns.{countsAfter, small, raisedCounts, emptiedSets};
 
 // From p + 1 to the message that has place j, of the 64 after p.
-fn offset_at(p: u64, j: usize) -> u64
+pub(crate) fn offset_at(p: u64, j: usize) -> u64
     requires { ⌜ j < 64 ⌝ }
     ensures { λ r. ⌜ r ≡ offsetAt p j ⌝ }
 {
@@ -42,33 +39,6 @@ pub(crate) fn counts_after(words: &[u64; 457], p: u64, n: u64) -> [u64; 64]
         j += 1;
     }
     counts
-}
-
-// The complaint set in place j with the report heard, empty where its message is not one of the n after p.
-fn heard_at(words: &[u64; 457], h: Hearing, p: u64, n: u64, j: usize) -> u64
-    requires { ⌜ (h .highest ≡ highestOf (h .number) (h .mask)) × (h .number ≤ 1000000000000) × (p ≤ 1000000000000) × (j < 64) ⌝ }
-    ensures { λ r. ⌜ r ≡ cond (ltb (offsetAt p j) n) (complaintsAfter (h .member) (h .number) (h .mask) (h .again) p (p + 1 + offsetAt p j) (wordAt (now (words .entry)) (393 + j))) 0 ⌝ }
-{
-    let o = offset_at(p, j);
-    if o < n {
-        judging::complaints_after(h, p, p + 1 + o, words[393 + j])
-    } else {
-        0
-    }
-}
-
-// The complaint sets of the n messages after p with the report heard; every other set is empty.
-pub(crate) fn heard_after(words: &[u64; 457], h: Hearing, p: u64, n: u64) -> [u64; 64]
-    requires { ⌜ (h .highest ≡ highestOf (h .number) (h .mask)) × (h .number ≤ 1000000000000) × (p ≤ 1000000000000) ⌝ }
-    ensures { λ r. ⌜ r ≡ heardAfter (now (words .entry)) (h .member) (h .number) (h .mask) (h .again) p n ⌝ }
-{
-    let mut sets = [0u64; 64];
-    let mut j: usize = 0;
-    while j < 64 {
-        sets[j] = heard_at(words, h, p, n, j);
-        j += 1;
-    }
-    sets
 }
 
 // The count of the message in place j, raised where that message is due.

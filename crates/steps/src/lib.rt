@@ -1,6 +1,7 @@
 // The steps of an accepted report in the lent words of the state: what they need is read first, and only what changes is put.
 mod columns;
 mod deciding;
+mod heard;
 mod hearing;
 mod putting;
 mod refusing;

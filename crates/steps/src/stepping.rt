@@ -1,10 +1,10 @@
 // The steps of an accepted report.
 use crate::columns::counts_after;
 use crate::columns::emptied_sets;
-use crate::columns::heard_after;
 use crate::columns::raised_counts;
 use crate::deciding::due_after;
 use crate::deciding::put_verdicts;
+use crate::heard::heard_after;
 use crate::hearing::hearing_of;
 use crate::hearing::is_quiet;
 use crate::hearing::point_after;

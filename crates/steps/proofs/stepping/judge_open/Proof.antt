@@ -1,5 +1,5 @@
 -- Where nothing is due the columns stay as the report left them.
-use Rattle.steps.proofs.StepLaws.{step-member, step-fit, step-number, step-highest, step-low, step-order, step-words, step-counts-stay, step-sets-stay, step-none, step-none-out}
+use Rattle.steps.proofs.StepLaws.{step-member, step-fit, step-highest, step-order, step-words, step-counts-stay, step-sets-stay, step-none, step-none-out}
 use borrow.Author.Needs.{needs}
 use Rattle.steps.proofs.stepping.judge_open.Statement.{statement}
 use Rattle.steps.proofs.stepping.judge_open.Tie as tie
@@ -14,7 +14,7 @@ counts-after-requires : tie.Need-counts-after-requires
 counts-after-requires c κs = search needs
 
 heard-after-requires : tie.Need-heard-after-requires
-heard-after-requires c κs = (search (step-highest, needs), search (step-number, needs), search (step-low, needs))
+heard-after-requires c κs = search (step-highest, needs)
 
 due-after-requires : tie.Need-due-after-requires
 due-after-requires c κs = search needs
