@@ -73,8 +73,7 @@ fn with_lacking(set: u64, i: usize, number: u64, mask: u64, k: u64) -> u64
 }
 
 // The members that lack message k, of the first n, a bit for each.
-// inner: the places are 64.
-pub fn lacking(numbers: &[u64; 64], masks: &[u64; 64], n: usize, k: u64) -> u64
+pub(crate) fn lacking(numbers: &[u64; 64], masks: &[u64; 64], n: usize, k: u64) -> u64
     requires { ⌜ n ≤ 64 ⌝ }
     ensures { λ r. ⌜ r ≡ lackingOf (now (numbers .entry)) (now (masks .entry)) n k ⌝ }
 {

@@ -8,7 +8,6 @@ mod state;
 
 pub use columns::complaints_of;
 pub use columns::counts_of;
-pub use columns::lacking;
 pub use columns::masks_of;
 pub use columns::numbers_of;
 pub use formed::cluster_kept;

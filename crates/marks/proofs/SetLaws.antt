@@ -151,14 +151,6 @@ unfolding setBelow
 set-none p zero h = refl
 set-none p (suc n) h = simp (h n (omega arith)) (set-none p n (λ j l. h j (omega arith)))
 
--- a bit comes into the set or it does not
-module _ (t i r : ℕ) (b : Bool) where
-  pub comes-in : b ≡ true → r ≡ markOf t i → r ≡ cond b (markOf t i) t
-  comes-in h q = simp h q
-
-  pub stays-out : b ≡ false → t ≡ cond b (markOf t i) t
-  stays-out h = simp h
-
 pub set-lt : (p : ℕ → Bool) (n : ℕ) → setBelow n p < 2 ^ n
 unfolding setBelow
 set-lt p zero = omega arith

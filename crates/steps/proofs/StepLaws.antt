@@ -73,9 +73,6 @@ module _ (ws : List ℕ) (h : Hearing) (p : ℕ) (k : Stepping ws h p) where
   pub step-member : h .member < 64
   step-member = may .member
 
-  pub step-number : h .number ≤ 1000000000000
-  step-number = may .low
-
   pub step-few : wordAt ws 67 ≤ 64
   unfolding windowIn clusterAt
   step-few = may .few
@@ -120,7 +117,7 @@ module _ (ws : List ℕ) (h : Hearing) (p : ℕ) (k : Stepping ws h p) where
   unfolding takenOf windowIn
   entries-are = rw (again-is, ← k .point) refl
 
-  pub point-same : taken .point ≡ p
+  point-same : taken .point ≡ p
   unfolding takenOf
   point-same = sym (k .point)
 
