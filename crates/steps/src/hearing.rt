@@ -49,7 +49,7 @@ pub(crate) fn point_after(words: &[u64; 457], i: u32, c: u64) -> u64
 pub(crate) fn is_quiet(words: &[u64; 457], h: Hearing, p: u64) -> bool
     ensures { λ r. ⌜ r ≡ ((eqb p (wordAt (now (words .entry)) 136) || noneAbove (now (words .entry)) 329 64 0) && eqb (h .mask) 0 && not (h .again && eqb (h .number) p) && noneAbove (now (words .entry)) 393 64 0) ⌝ }
 {
-    let unsent = words::none_above(words, 329, 64, 0);
-    let silent = words::none_above(words, 393, 64, 0);
+    let unsent = words::all_zero(words, 329, 64);
+    let silent = words::all_zero(words, 393, 64);
     ((p == words[136]) | unsent) & (h.mask == 0) & !(h.again & (h.number == p)) & silent
 }

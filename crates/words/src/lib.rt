@@ -14,6 +14,6 @@ pub use judging::formed;
 pub use opening::put_none;
 pub use opening::put_opened;
 pub use sending::put_sent;
+pub use straight::all_zero;
 pub use taking::cluster_at;
-pub use taking::none_above;
 pub use taking::quantum_in;

@@ -19,7 +19,8 @@ pub(crate) fn any(words: &[u64; 457], from: usize, n: usize) -> u64
 }
 
 // Whether n words from a place on are zero.
-pub(crate) fn all_zero(words: &[u64; 457], from: usize, n: usize) -> bool
+// inner: for places among the 457.
+pub fn all_zero(words: &[u64; 457], from: usize, n: usize) -> bool
     requires { ⌜ from + n ≤ 457 ⌝ }
     ensures { λ r. ⌜ r ≡ noneAbove (now (words .entry)) from n 0 ⌝ }
 {

@@ -3,22 +3,7 @@ use downstream::Cluster;
 ghost use mathlib.Core.Path.{_≡_};
 ghost use mathlib.Core.Bool.{true};
 ghost use Prim.Native.Nat.{_+_, _≤_};
-ghost use Rattle.words.specs.Taken.{wordAt, noneAbove, fits, columnAt, clusterAt};
-
-// Whether n words from a place on are at most so large.
-// inner: for places among the 457.
-pub fn none_above(words: &[u64; 457], from: usize, n: usize, most: u64) -> bool
-    requires { ⌜ from + n ≤ 457 ⌝ }
-    ensures { λ r. ⌜ r ≡ noneAbove (now (words .entry)) from n most ⌝ }
-{
-    let mut none = true;
-    let mut i: usize = 0;
-    while i < n {
-        none = none & (words[from + i] <= most);
-        i += 1;
-    }
-    none
-}
+ghost use Rattle.words.specs.Taken.{wordAt, fits, columnAt, clusterAt};
 
 // The 64 shares from a place on.
 fn shares_at(words: &[u64; 457], at: usize) -> [u32; 64]
