@@ -2,43 +2,44 @@
 use mathlib.Core.Path.{_≡_, refl, ap, sym, _∙_}
 use mathlib.Core.Bool.{true, false, cond, _&&_}
 use mathlib.Core.List.{List}
-use Prim.Native.Nat.{ℕ, _+_, _≤_, _<_}
+use Prim.Native.Nat.{ℕ, zero, suc, _+_, _≤_, _<_}
+use native.Mathlib.Decide.{decLt}
+use native.Mathlib.Numerals.{add-one}
 use native.Mathlib.Omega.{arith}
-use lib.Bits.{bitOr, or-add-and, and-le-l, and-le-r}
-use lib.Dec.{leb, ltb, eqb}
+use lib.Bits.{bitOr}
+use lib.Dec.{leb, ltb}
 use lib.ListN.{length, getD}
-use borrow.Author.Tests.{lt-leb, eq-eqb, eqb-true}
-use Rattle.basics.proofs.BoolLaws.{and-not-left, and-both, and-left, and-right, same-test}
-use Rattle.basics.proofs.SumLaws.{sum-zero, all-start, all-turn, all-at}
+use borrow.Author.Tests.{lt-leb}
+use Rattle.basics.proofs.BoolLaws.{or-left, or-right, and-not-left}
+use Rattle.basics.proofs.SumLaws.{sum-zero}
 use Rattle.marks.specs.Masks.{isMarked, markOf, setBelow}
 use Rattle.marks.proofs.MaskLaws.{marked-none}
-use Rattle.marks.proofs.SetLaws.{set-turn}
+use Rattle.marks.proofs.SetLaws.{set-turn, marked-or}
 use Rattle.shares.specs.Shares.{shareOf}
+use Rattle.shares.proofs.ShareLaws.{share-mono}
 use Rattle.downstream.specs.State.{placeAfter}
-use Rattle.judging.specs.Verdicts.{enoughAgainst, nobodyComplains}
+use Rattle.judging.specs.Verdicts.{enoughAgainst, complainersOf}
 
--- ---- nobody complains of anything
-both-zero : (a b : ℕ) → eqb (bitOr a b) 0 ≡ (eqb a 0 && eqb b 0)
-both-zero a b =
-    let s = or-add-and a b in
-    same-test (eqb (bitOr a b) 0) (eqb a 0 && eqb b 0)
-    (λ t. let z = eqb-true (bitOr a b) 0 t in
-    and-both (eqb a 0) (eqb b 0) (eq-eqb a 0 (omega (arith, s, and-le-r a b))) (eq-eqb b 0 (omega (arith, s, and-le-l a b))))
-    (λ t. let x = eqb-true a 0 (and-left (eqb a 0) (eqb b 0) t) in
-    let y = eqb-true b 0 (and-right (eqb a 0) (eqb b 0) t) in
-    eq-eqb (bitOr a b) 0 (omega (arith, s)))
-
+-- ---- those that complain of anything
 module _ (complaints : List ℕ) where
-  pub nobody-start : eqb 0 0 ≡ nobodyComplains complaints 0
-  unfolding nobodyComplains
-  nobody-start = all-start (λ j. eqb (getD complaints j 0) 0)
+  pub complainers-start : 0 ≡ complainersOf complaints 0
+  unfolding complainersOf
+  complainers-start = refl
 
-  pub nobody-turn : (i any : ℕ) → eqb any 0 ≡ nobodyComplains complaints i → eqb (bitOr any (getD complaints i 0)) 0 ≡ nobodyComplains complaints (i + 1)
-  unfolding nobodyComplains
-  nobody-turn i any e = both-zero any (getD complaints i 0) ∙ all-turn (λ j. eqb (getD complaints j 0) 0) {i = i} e refl
+  pub complainers-turn : (i any : ℕ) → any ≡ complainersOf complaints i → bitOr any (getD complaints i 0) ≡ complainersOf complaints (i + 1)
+  unfolding complainersOf
+  complainers-turn i any e = rw (add-one, e)
 
-  pub nobody-done : (i any : ℕ) → eqb any 0 ≡ nobodyComplains complaints i → i ≤ 64 → 64 ≤ i → eqb any 0 ≡ nobodyComplains complaints 64
-  nobody-done i any e a b = let z : i ≡ 64 = omega arith in rw z at e
+  pub complainers-done : (i any : ℕ) → any ≡ complainersOf complaints i → i ≤ 64 → 64 ≤ i → any ≡ complainersOf complaints 64
+  complainers-done i any e a b = let z : i ≡ 64 = omega arith in rw z at e
+
+  complainer-in : (n j b : ℕ) → j < n → isMarked (getD complaints j 0) b ≡ true → isMarked (complainersOf complaints n) b ≡ true
+  unfolding complainersOf
+  complainer-in zero j b l h = absurd (omega arith)
+  complainer-in (suc n) j b l h = marked-or (complainersOf complaints n) (getD complaints n 0) b ∙ elim (decLt j n) [
+    | yes k ↦ or-left (isMarked (complainersOf complaints n) b) (isMarked (getD complaints n 0) b) (complainer-in n j b k h)
+    | no k ↦ (let z : j ≡ n = omega arith in or-right (isMarked (complainersOf complaints n) b) (isMarked (getD complaints n 0) b) (rw z at h))
+  ]
 
 -- a set of nobody has no share
 pub nobody : (shares : List ℕ) → 0 ≡ shareOf shares (isMarked 0)
@@ -60,9 +61,10 @@ module _ (shares : List ℕ) (r : ℕ) (counts complaints : List ℕ) (p : ℕ) 
       set-turn (enoughAgainst shares r counts complaints p) o n l few e
       (f ∙ ap (λ (x : ℕ). cond (leb (r + 1) x && ltb (getD counts (placeAfter p o) 0) 255) (markOf set o) set) q)
 
-  pub none-against : (o : ℕ) → nobodyComplains complaints 64 ≡ true → enoughAgainst shares r counts complaints p o ≡ false
-  unfolding enoughAgainst nobodyComplains
-  none-against o h =
-      let e : getD complaints (placeAfter p o) 0 ≡ 0 = eqb-true _ 0 (all-at (λ j. eqb (getD complaints j 0) 0) 64 h (placeAfter p o) (omega arith)) in
-      and-not-left (leb (r + 1) (shareOf shares (isMarked (getD complaints (placeAfter p o) 0)))) (ltb (getD counts (placeAfter p o) 0) 255)
-      (rw e (lt-leb (r + 1) (shareOf shares (isMarked 0)) (omega (arith, nobody shares))))
+  pub few-against : (o any against : ℕ) → any ≡ complainersOf complaints 64 → against ≡ shareOf shares (isMarked any) → against ≤ r → enoughAgainst shares r counts complaints p o ≡ false
+  unfolding enoughAgainst
+  few-against o any against ea es l =
+      let set : ℕ = getD complaints (placeAfter p o) 0 in
+      let m : shareOf shares (isMarked set) ≤ shareOf shares (isMarked any) = share-mono shares (isMarked set) (isMarked any)
+      (λ i k t. ap (λ (x : ℕ). isMarked x i) ea ∙ complainer-in complaints 64 (placeAfter p o) i (omega arith) t) in
+      and-not-left (leb (r + 1) (shareOf shares (isMarked set))) (ltb (getD counts (placeAfter p o) 0) 255) (lt-leb (r + 1) (shareOf shares (isMarked set)) (omega (arith, m, es)))

@@ -19,8 +19,8 @@ use Rattle.shares.specs.Shares.{shareOf}
 use Rattle.shares.proofs.ShareLaws.{share-same}
 use Rattle.downstream.specs.State.{placeAfter, heldBy, isQuacked}
 use Rattle.downstream.specs.Rows.{heldRows}
-use Rattle.judging.specs.Verdicts.{isDue, enoughAgainst, nobodyComplains, holdingShare, isLost}
-use Rattle.judging.proofs.AgainstLaws.{none-against}
+use Rattle.judging.specs.Verdicts.{isDue, enoughAgainst, complainersOf, holdingShare, isLost}
+use Rattle.judging.proofs.AgainstLaws.{few-against}
 
 not-reached : (u s : ℕ) → not (leb (u + 1) s) ≡ leb s u
 not-reached u s = elim (decLe s u) [
@@ -50,8 +50,8 @@ module _ (shares : List ℕ) (u r : ℕ) (numbers masks counts complaints : List
   not-due : (o : ℕ) → enoughAgainst shares r counts complaints p o ≡ false → dueOne o ≡ false
   not-due o h = in-parts o ∙ and-not-left (enoughAgainst shares r counts complaints p o) (leb (shareOf shares (heldBy numbers masks (p + 1 + o))) u) h
 
-  pub nobody-due : (n : ℕ) (b : Bool) → b ≡ nobodyComplains complaints 64 → b ≡ true → 0 ≡ setBelow n dueOne
-  nobody-due n b e h = set-none dueOne n (λ o l. not-due o (none-against shares r counts complaints p o (sym e ∙ h)))
+  pub few-due : (n any against : ℕ) → any ≡ complainersOf complaints 64 → against ≡ shareOf shares (isMarked any) → against ≤ r → 0 ≡ setBelow n dueOne
+  few-due n any against ea es l = set-none dueOne n (λ o h. not-due o (few-against shares r counts complaints p o any against ea es l))
 
   module _ (n enough : ℕ) (few : n ≤ 64) (e : enough ≡ setBelow n (enoughAgainst shares r counts complaints p)) where
     asked : (o : ℕ) → o < n → isMarked enough o ≡ enoughAgainst shares r counts complaints p o

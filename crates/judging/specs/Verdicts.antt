@@ -2,10 +2,10 @@
 use mathlib.Core.Bool.{Bool, false, cond, not, _&&_}
 use mathlib.Core.Path.{_≡_}
 use mathlib.Core.List.{List}
-use Prim.Native.Nat.{ℕ, _+_, _-_, _≤_, _<_}
-use lib.Dec.{leb, ltb, eqb}
+use Prim.Native.Nat.{ℕ, zero, suc, _+_, _-_, _≤_, _<_}
+use lib.Bits.{bitOr}
+use lib.Dec.{leb, ltb}
 use lib.ListN.{getD}
-use Rattle.basics.specs.Sums.{allBelow}
 use Rattle.marks.specs.Masks.{isMarked, setBelow}
 use Rattle.shares.specs.Shares.{shareOf}
 use Rattle.downstream.specs.declared.state.Entry.{Entry}
@@ -26,9 +26,10 @@ enoughAgainst shares r counts complaints p o =
     leb (r + 1) (shareOf shares (isMarked (getD complaints (placeAfter p o) 0)))
     && ltb (getD counts (placeAfter p o) 0) 255
 
--- nobody complains of the messages in the first n places
-unfoldable pub nobodyComplains : List ℕ → ℕ → Bool
-nobodyComplains complaints n = allBelow n (λ j. eqb (getD complaints j 0) 0)
+-- the members that complain of anything at all, by the first n of the sets
+unfoldable pub complainersOf : List ℕ → ℕ → ℕ
+complainersOf complaints zero = 0
+complainersOf complaints (suc n) = bitOr (complainersOf complaints n) (getD complaints n 0)
 
 -- the share of the members whose word has bit o
 unfoldable pub holdingShare : List ℕ → List ℕ → ℕ → ℕ

@@ -6,11 +6,12 @@ ghost use lib.Dec.{leb, ltb};
 ghost use lib.ListN.{length};
 ghost use Rattle.marks.specs.Masks.{isMarked, markOf, setBelow};
 ghost use Rattle.shares.specs.Shares.{shareOf};
-ghost use Rattle.judging.specs.Verdicts.{enoughAgainst, nobodyComplains};
+ghost use Rattle.judging.specs.Verdicts.{enoughAgainst, complainersOf};
 
-// Whether no message at all has a complaint: then nothing else need be asked.
-pub(crate) fn nobody_complains(complaints: &[u64; 64]) -> bool
-    ensures { λ b. ⌜ b ≡ nobodyComplains (now (complaints .entry)) 64 ⌝ }
+// The members that complain of anything at all.
+// inner: for the verdicts that are due.
+pub fn complainers(complaints: &[u64; 64]) -> u64
+    ensures { λ r. ⌜ r ≡ complainersOf (now (complaints .entry)) 64 ⌝ }
 {
     let mut any: u64 = 0;
     let mut i: usize = 0;
@@ -18,7 +19,7 @@ pub(crate) fn nobody_complains(complaints: &[u64; 64]) -> bool
         any = any | complaints[i];
         i += 1;
     }
-    any == 0
+    any
 }
 
 // A set of members and its share. Messages that were sent one after another mostly have the same complaint set, so the last one that was

@@ -1,6 +1,6 @@
 // Judging the open messages: which verdicts are due, and what they change.
+use crate::against::complainers;
 use crate::against::enough_among;
-use crate::against::nobody_complains;
 use crate::lost::lost_among;
 use downstream::Downstream;
 use downstream::Entry;
@@ -18,8 +18,8 @@ ghost use Rattle.downstream.specs.State.{noEntry, placeAfter};
 ghost use Rattle.judging.specs.Complaints.{entriesAfter};
 ghost use Rattle.judging.specs.Verdicts.{isDue, dueOf, raisedEntry, judgedOf, Judging};
 
-// Those of the n messages after p that are due, a bit for each. The cheap questions come first: whether anybody complains at all, of which
-// messages enough complain, and only then who holds these.
+// Those of the n messages after p that are due, a bit for each. The cheap questions come first: whether enough members complain of anything
+// at all, of which messages enough do, and only then who holds these.
 // inner: for the report step, which has judged the report; its state may lie in words.
 pub fn due_among(
     shares: &[u32],
@@ -35,7 +35,8 @@ pub fn due_among(
     requires { ⌜ (length (now shares) ≤ 64) × (p ≤ 1000000000000) × (n ≤ 64) ⌝ }
     ensures { λ b. ⌜ b ≡ setBelow n (λ o. isDue (now (shares .entry)) u r (now (numbers .entry)) (now (masks .entry)) (p + 1 + o) (record { count = getD (now (counts .entry)) (placeAfter p o) 0; complaints = getD (now (complaints .entry)) (placeAfter p o) 0 })) ⌝ }
 {
-    if nobody_complains(complaints) {
+    let against = shares::share(shares, complainers(complaints));
+    if against <= r as u64 {
         return 0;
     }
     let enough = enough_among(shares, r, counts, complaints, p, n);

@@ -2,25 +2,28 @@
 use lib.ListN.{length}
 use Rattle.downstream.proofs.FormedLaws.{prefixes}
 use Rattle.downstream.proofs.RowLaws.{rows-cut, rows-long}
-use Rattle.judging.proofs.DueLaws.{nobody-due, none-due, due-told}
+use Rattle.judging.proofs.DueLaws.{few-due, none-due, due-told}
 use borrow.Author.Needs.{needs}
 use Rattle.judging.proofs.due.due_among.Statement.{statement}
 use Rattle.judging.proofs.due.due_among.Tie as tie
 
-nobody-complains-requires : tie.Need-nobody-complains-requires
-nobody-complains-requires c κs = search needs
+complainers-requires : tie.Need-complainers-requires
+complainers-requires c κs = search needs
+
+share-requires : tie.Need-share-requires
+share-requires c κs = search needs
 
 returns : tie.Need-returns
 returns c =
-    let a = c .before .before .before .args in
-    search (nobody-due (a .shares .now) (a .u) (a .r) (a .numbers .now) (a .masks .now) (a .counts .now) (a .complaints .now) (a .p))
+    let a = c .before .before .before .before .args in
+    search (few-due (a .shares .now) (a .u) (a .r) (a .numbers .now) (a .masks .now) (a .counts .now) (a .complaints .now) (a .p), needs)
 
 enough-among-requires : tie.Need-enough-among-requires
 enough-among-requires c κs = search needs
 
 returns-2 : tie.Need-returns-2
 returns-2 c =
-    let a = c .before .before .before .before .before .args in
+    let a = c .before .before .before .before .before .before .args in
     search (none-due (a .shares .now) (a .u) (a .r) (a .numbers .now) (a .masks .now) (a .counts .now) (a .complaints .now) (a .p))
 
 slice-aggregate-fill-held : tie.Need-slice-aggregate-fill-held
@@ -40,7 +43,7 @@ lost-among-requires c κs = (search needs, search rows-long, search needs)
 
 returns-3 : tie.Need-returns-3
 returns-3 c =
-    let start = c .before .before .before .before .before .before .before .before .before .before in
+    let start = c .before .before .before .before .before .before .before .before .before .before .before in
     let a = start .args in
     let filled = c .before .before .before .fill-held .ensures in
     let enough = c .before .before .before .before .before .before .enough-among .ensures in
@@ -51,7 +54,8 @@ pub due-among-spec : {M : Type 1} → statement M
 due-among-spec =
     tie.close
     (tie.spec
-    nobody-complains-requires
+    complainers-requires
+    share-requires
     returns
     enough-among-requires
     returns-2

@@ -1,21 +1,20 @@
--- The invariant: no bit has come together just where nobody complains of the messages in the first i places.
+-- The invariant: those that complain of the messages in the first i places have come together.
 use Prim.Native.Nat.{_≤_, _-_}
-use lib.Dec.{eqb}
-use Rattle.judging.specs.Verdicts.{nobodyComplains}
-use Rattle.judging.proofs.AgainstLaws.{nobody-start, nobody-turn, nobody-done}
+use Rattle.judging.specs.Verdicts.{complainersOf}
+use Rattle.judging.proofs.AgainstLaws.{complainers-start, complainers-turn, complainers-done}
 use mathlib.Core.Path.{_≡_}
 use borrow.Author.Needs.{needs}
-use Rattle.judging.proofs.against.nobody_complains.Statement.{statement}
-use Rattle.judging.proofs.against.nobody_complains.Tie as tie
+use Rattle.judging.proofs.against.complainers.Statement.{statement}
+use Rattle.judging.proofs.against.complainers.Tie as tie
 
 abbrev Inv-loop : tie.InvT-loop
-Inv-loop complaints any₀ i₀ any i = (i ≤ 64) × (eqb any 0 ≡ nobodyComplains complaints i)
+Inv-loop complaints any₀ i₀ any i = (i ≤ 64) × (any ≡ complainersOf complaints i)
 
 abbrev μ-loop : tie.MeasureT-loop
 μ-loop complaints any₀ i₀ any i = 64 - i
 
 loop-holds : tie.Need-loop-holds Inv-loop μ-loop
-loop-holds c = (search needs, search nobody-start)
+loop-holds c = (search needs, search complainers-start)
 
 mul-any : tie.Need-mul-any Inv-loop μ-loop
 mul-any c = search needs
@@ -30,13 +29,13 @@ loop-less : tie.Need-loop-less Inv-loop μ-loop
 loop-less c = search needs
 
 loop-again : tie.Need-loop-again Inv-loop μ-loop
-loop-again c = (search needs, search nobody-turn)
+loop-again c = (search needs, search complainers-turn)
 
 returns : tie.Need-returns Inv-loop μ-loop
-returns c = search nobody-done
+returns c = search complainers-done
 
-pub nobody-complains-spec : {M : Type 1} → statement M
-nobody-complains-spec =
+pub complainers-spec : {M : Type 1} → statement M
+complainers-spec =
     tie.close
     (tie.spec
     Inv-loop
