@@ -2,11 +2,10 @@
 use mathlib.Core.Path.{_≡_, refl, ap, _∙_}
 use mathlib.Core.Bool.{Bool, true, false}
 use mathlib.Core.List.{List, [], _∷_, _++_}
-use Prim.Native.Nat.{ℕ, _+_, _<_, _≤_}
+use Prim.Native.Nat.{ℕ, _+_, _*_, _/_, _%_, _<_, _≤_}
 use native.Mathlib.Omega.{arith}
 use lib.Dec.{leb}
-use lib.ListN.{length, drop, set, drop-of-length-le}
-use lib.Seq.{sets-eq}
+use lib.ListN.{length, drop}
 use borrow.Author.Needs.{needs}
 use borrow.Author.Tests.{le-leb, lt-leb, leb-true, not-true, not-false}
 use borrow.Rule.Slice.PartMut.{midOf, putMid}
@@ -23,12 +22,14 @@ use Rattle.records.specs.declared.Refusal.the-variants.{WrongLength, Wro
 use Rattle.records.specs.declared.WriteAnswer.the-variants.{Written, Denied}
 
 -- ---- the bytes
-pub put-head : (k m : ℕ) (s z : List ℕ) → length s ≡ 8 → z ≡ leBytes (length (midOf 2 6 (set (set s 0 k) 1 m))) 0 → putMid 2 6 (set (set s 0 k) 1 m) z ≡ headOf k m
+pub put-head : (k m n : ℕ) (l : List ℕ) → k < 256 → m < 256 → n ≡ 8 → l ≡ leBytes n (m * 256 + k) → l ≡ headOf k m
 unfolding headOf leBytes
-put-head k m s z l e =
-    let two : set (set s 0 k) 1 m ≡ (k ∷ m ∷ []) ++ drop 2 s = sets-eq (k ∷ m ∷ []) s 0 (omega arith) in
-    rw two (fill-next (k ∷ m ∷ []) s z 2 6 0 refl (omega arith) (rw two at e))
-    ∙ ap (λ (t : List ℕ). k ∷ m ∷ leBytes 6 0 ++ t) (drop-of-length-le s {i = 8} (omega arith))
+put-head k m n l a b e f =
+    let x : (m * 256 + k) % 256 ≡ k = omega arith in
+    let y : (m * 256 + k) / 256 ≡ m = omega arith in
+    let u : m % 256 ≡ m = omega arith in
+    let v : m / 256 ≡ 0 = omega arith in
+    f ∙ rw (e, x, y, u, v) refl
 
 pub put-record : (k m n w : ℕ) (s h a b : List ℕ) → 24 ≤ length s → h ≡ headOf k m → a ≡ leBytes (length (midOf 8 8 (putMid 0 8 s h))) n
     → b ≡ leBytes (length (midOf 16 8 (putMid 8 8 (putMid 0 8 s h) a))) w → putMid 16 8 (putMid 8 8 (putMid 0 8 s h) a) b ≡ bytesOf k m n w ++ drop 24 s

@@ -35,14 +35,12 @@ fn fields_kept(kind: u8, member: u8, number: u64, mask: u64) -> bool
     ((kind != 0) | unused) & ((kind != 2) | (mask == 0))
 }
 
-// The first 8 bytes: kind, member and six zeros.
+// The first 8 bytes: kind, member and six zeros, as one number.
 fn put_head(kind: u8, member: u8, head: &mut [u8])
     requires { ⌜ length (now head) ≡ 8 ⌝ }
     ensures { λ _. ⌜ now (head .exit) ≡ headOf kind member ⌝ }
 {
-    head[0] = kind;
-    head[1] = member;
-    put_number(&mut head[2..8], 0);
+    put_number(head, (member as u64) * 256 + (kind as u64));
 }
 
 // The 24 bytes, part by part: the later bytes of the output stay as they were.

@@ -1,6 +1,6 @@
 -- Parts that are put one behind the other fill what was lent. Assumes nothing.
 use mathlib.Core.Path.{_≡_, refl, ap, sym, _∙_}
-use mathlib.Core.List.{List, [], _∷_, _++_, append-nil}
+use mathlib.Core.List.{List, [], _∷_, _++_, append-nil, append-assoc}
 use Prim.Native.Nat.{ℕ, zero, suc, _+_, _-_, _≤_, _<_}
 use native.Mathlib.Nat.{zero-add}
 use native.Mathlib.Omega.{arith}
@@ -12,10 +12,7 @@ use Rattle.basics.specs.Sums.{listBelow}
 use Rattle.basics.proofs.SumLaws.{length-list, list-at, list-is, list-turn}
 use Rattle.downstream.specs.declared.state.Cluster.{Cluster}
 use Rattle.downstream.specs.declared.state.Report.{Report}
-use Rattle.downstream.specs.declared.state.Entry.{Entry}
 use Rattle.downstream.specs.State.{noReport, noEntry, reportAt, numbersOf, masksOf, countsOf, complaintsOf}
-use Rattle.downstream.proofs.ColumnLaws.{length-resent}
-use Rattle.window.specs.declared.state.Window.{Window}
 use Rattle.window.specs.Opening.{clusterFrom, windowFrom, noWindow}
 use Rattle.words.specs.Put.{zeros, sharesWords, clusterWords, heardOf, reportWords, entryWords, wordsOf}
 
@@ -80,40 +77,11 @@ pub length-heard : (l : List Report) → length (heardOf l) ≡ 64
 unfolding heardOf
 length-heard l = length-list _ 64
 
-length-complaints : (l : List Entry) → length (complaintsOf l) ≡ 64
-unfolding complaintsOf
-length-complaints l = length-list (λ i. getD l i noEntry .complaints) 64
-
-length-entries : (l : List Entry) → length (entryWords l) ≡ 128
-unfolding entryWords
-length-entries l = length-append (countsOf l) (complaintsOf l) ∙ omega (arith, length-resent l, length-complaints l)
-
 pub length-reports : (l : List Report) → length (reportWords l) ≡ 192
 unfolding reportWords
 length-reports l =
     length-append (numbersOf l ++ masksOf l) (heardOf l)
     ∙ omega (arith, length-append (numbersOf l) (masksOf l), length-numbers l, length-masks l, length-heard l)
-
-window-put : (w : Window) (s a b c d e : List ℕ) → length s ≡ 457 → a ≡ clusterWords (w .sending) → b ≡ clusterWords (w .downstream .cluster)
-    → c ≡ w .quantum ∷ w .sent ∷ w .downstream .point ∷ [] → d ≡ reportWords (w .downstream .reports) → e ≡ entryWords (w .downstream .entries)
-    → putMid 329 128 (putMid 137 192 (putMid 134 3 (putMid 67 67 (putMid 0 67 s a) b) c) d) e ≡ wordsOf w
-unfolding wordsOf
-window-put w s a b c d e n ea eb ec ed ee =
-    let la : length a ≡ 67 = ap length ea ∙ length-cluster (w .sending) in
-    let lb : length b ≡ 67 = ap length eb ∙ length-cluster (w .downstream .cluster) in
-    let lc : length c ≡ 3 = ap length ec in
-    let ld : length d ≡ 192 = ap length ed ∙ length-reports (w .downstream .reports) in
-    let le : length e ≡ 128 = ap length ee ∙ length-entries (w .downstream .entries) in
-    let lab : length (a ++ b) ≡ 134 = length-append a b ∙ omega (arith, la, lb) in
-    let labc : length (a ++ b ++ c) ≡ 137 = length-append (a ++ b) c ∙ omega (arith, lab, lc) in
-    let labcd : length (a ++ b ++ c ++ d) ≡ 329 = length-append (a ++ b ++ c) d ∙ omega (arith, labc, ld) in
-    let one : putMid 0 67 s a ≡ a ++ drop 67 s = put-next [] a s 0 67 refl la in
-    let two : putMid 67 67 (putMid 0 67 s a) b ≡ (a ++ b) ++ drop 134 s = more a b s (putMid 0 67 s a) 67 67 one la lb in
-    let three : putMid 134 3 (putMid 67 67 (putMid 0 67 s a) b) c ≡ (a ++ b ++ c) ++ drop 137 s = more (a ++ b) c s (putMid 67 67 (putMid 0 67 s a) b) 134 3 two lab lc in
-    let four : putMid 137 192 (putMid 134 3 (putMid 67 67 (putMid 0 67 s a) b) c) d ≡ (a ++ b ++ c ++ d) ++ drop 329 s = more (a ++ b ++ c) d s (putMid 134 3 (putMid 67 67 (putMid 0 67 s a) b) c) 137 192 three labc ld in
-    more (a ++ b ++ c ++ d) e s (putMid 137 192 (putMid 134 3 (putMid 67 67 (putMid 0 67 s a) b) c) d) 329 128 four labcd le
-    ∙ full (a ++ b ++ c ++ d ++ e) s 457 n
-    ∙ rw (ea, eb, ec, ed, ee)
 
 -- ---- zeros
 pub zeros-turn : (i : ℕ) {l : List ℕ} (o : List ℕ) → l ≡ listBelow i (λ _. 0) ++ drop i o → (n : ℕ) → i < n → length l ≡ n → length o ≡ n → set l i 0 ≡ listBelow (i + 1) (λ _. 0) ++ drop (i + 1) o
@@ -125,20 +93,29 @@ zeros-done i n l o e m a b =
     let z : i ≡ n = omega arith in
     e ∙ full (listBelow i (λ _. 0)) o i (m ∙ sym z) ∙ ap (λ (j : ℕ). listBelow j (λ _. 0)) z
 
-none-reported : zeros 192 ≡ reportWords (replicate 64 noReport)
-unfolding zeros reportWords numbersOf masksOf heardOf listBelow
-none-reported = refl
-
-none-open : zeros 128 ≡ entryWords (replicate 64 noEntry)
-unfolding zeros entryWords countsOf complaintsOf listBelow
-none-open = refl
+none-there : zeros 320 ≡ reportWords (replicate 64 noReport) ++ entryWords (replicate 64 noEntry)
+unfolding zeros reportWords entryWords numbersOf masksOf heardOf countsOf complaintsOf listBelow
+none-there = refl
 
 pub none-put : (l : List ℕ) → l ≡ zeros 457 → l ≡ wordsOf noWindow
 unfolding zeros wordsOf clusterWords sharesWords reportWords entryWords numbersOf masksOf heardOf countsOf complaintsOf listBelow
 none-put l e = e
 
-pub opened-put : (sending receiving : Cluster) (q : ℕ) (s a b c d e : List ℕ) → length s ≡ 457 → a ≡ clusterWords sending → b ≡ clusterWords receiving
-    → c ≡ q ∷ 0 ∷ 0 ∷ [] → d ≡ zeros 192 → e ≡ zeros 128
-    → putMid 329 128 (putMid 137 192 (putMid 134 3 (putMid 67 67 (putMid 0 67 s a) b) c) d) e ≡ wordsOf (windowFrom sending receiving q)
-opened-put sending receiving q s a b c d e n ea eb ec ed ee =
-    window-put (windowFrom sending receiving q) s a b c d e n ea eb ec (ed ∙ none-reported) (ee ∙ none-open)
+pub opened-put : (sending receiving : Cluster) (q : ℕ) (s a b c d : List ℕ) → length s ≡ 457 → a ≡ clusterWords sending → b ≡ clusterWords receiving → c ≡ q ∷ 0 ∷ 0 ∷ [] → d ≡ zeros 320
+    → putMid 137 320 (putMid 134 3 (putMid 67 67 (putMid 0 67 s a) b) c) d ≡ wordsOf (windowFrom sending receiving q)
+unfolding wordsOf zeros
+opened-put sending receiving q s a b c d n ea eb ec ed =
+    let la : length a ≡ 67 = ap length ea ∙ length-cluster sending in
+    let lb : length b ≡ 67 = ap length eb ∙ length-cluster receiving in
+    let lc : length c ≡ 3 = ap length ec in
+    let ld : length d ≡ 320 = ap length ed ∙ length-list (λ _. 0) 320 in
+    let lab : length (a ++ b) ≡ 134 = length-append a b ∙ omega (arith, la, lb) in
+    let labc : length (a ++ b ++ c) ≡ 137 = length-append (a ++ b) c ∙ omega (arith, lab, lc) in
+    let one : putMid 0 67 s a ≡ a ++ drop 67 s = put-next [] a s 0 67 refl la in
+    let two : putMid 67 67 (putMid 0 67 s a) b ≡ (a ++ b) ++ drop 134 s = more a b s (putMid 0 67 s a) 67 67 one la lb in
+    let three : putMid 134 3 (putMid 67 67 (putMid 0 67 s a) b) c ≡ (a ++ b ++ c) ++ drop 137 s = more (a ++ b) c s (putMid 67 67 (putMid 0 67 s a) b) 134 3 two lab lc in
+    more (a ++ b ++ c) d s (putMid 134 3 (putMid 67 67 (putMid 0 67 s a) b) c) 137 320 three labc ld
+    ∙ full (a ++ b ++ c ++ d) s 457 n
+    ∙ ap (λ (t : List ℕ). a ++ b ++ c ++ t) (ed ∙ none-there)
+    ∙ sym (append-assoc (a ++ b ++ c) (reportWords (replicate 64 noReport)) (entryWords (replicate 64 noEntry)))
+    ∙ rw (ea, eb, ec) refl

@@ -58,8 +58,7 @@ fn put_parts(ss: &[u32], su: u32, sr: u32, rs: &[u32], ru: u32, rr: u32, q: u32,
     put_cluster(ss, su, sr, &mut out[0..67]);
     put_cluster(rs, ru, rr, &mut out[67..134]);
     put_three(q as u64, 0, 0, &mut out[134..137]);
-    put_zeros(192, &mut out[137..329]);
-    put_zeros(128, &mut out[329..457]);
+    put_zeros(320, &mut out[137..457]);
 }
 
 // The words of a window between two clusters that is just opened.

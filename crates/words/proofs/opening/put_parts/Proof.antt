@@ -1,4 +1,4 @@
--- Five parts, one behind the other.
+-- Four parts, one behind the other.
 use Rattle.words.proofs.PutLaws.{opened-put}
 use borrow.Author.Needs.{needs}
 use Rattle.words.proofs.opening.put_parts.Statement.{statement}
@@ -52,18 +52,6 @@ part-put-zeros-end c = search needs
 put-zeros-requires : tie.Need-put-zeros-requires
 put-zeros-requires c κs = search needs
 
-sub-put-zeros-2 : tie.Need-sub-put-zeros-2
-sub-put-zeros-2 c = search needs
-
-part-put-zeros-start-2 : tie.Need-part-put-zeros-start-2
-part-put-zeros-start-2 c = search needs
-
-part-put-zeros-end-2 : tie.Need-part-put-zeros-end-2
-part-put-zeros-end-2 c = search needs
-
-put-zeros-requires-2 : tie.Need-put-zeros-requires-2
-put-zeros-requires-2 c κs = search needs
-
 same-length : tie.Need-same-length
 same-length c = search needs
 
@@ -90,9 +78,5 @@ put-parts-spec =
     part-put-zeros-start
     part-put-zeros-end
     put-zeros-requires
-    sub-put-zeros-2
-    part-put-zeros-start-2
-    part-put-zeros-end-2
-    put-zeros-requires-2
     same-length
     returns)
