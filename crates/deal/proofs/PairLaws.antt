@@ -1,7 +1,7 @@
 -- First pairs: their judgement, the slots of a message, and the answer. Assumes nothing.
 use mathlib.Core.Path.{_≡_, ap, sym, _∙_}
 use mathlib.Core.List.{List, [], _∷_, _++_}
-use Prim.Native.Nat.{ℕ, _+_, _*_, _-_, _/_, _%_, _≤_}
+use Prim.Native.Nat.{ℕ, _+_, _*_, _-_, _/_, _%_, _≤_, _<_}
 use native.Mathlib.Nat.{mod-lt, div-add-mod', mul-le-mul-left, mul-one}
 use native.Mathlib.Omega.{arith}
 use lib.ListN.{length, drop, take}
@@ -14,10 +14,11 @@ use Rattle.basics.specs.Ranges.{isMessage}
 use Rattle.basics.proofs.CheckLaws.{checks-passed, checks-failed, checks-first}
 use Rattle.hamilton.specs.Hamilton.{countsOf, Dealable}
 use Rattle.hamilton.proofs.JudgeLaws.{length-counts}
-use Rattle.deal.specs.Rounds.{ownerOf}
+use Rattle.deal.specs.Rounds.{slotsBefore, ownerOf}
 use Rattle.deal.specs.Pairs.{slotOf, quantumOf, senderOf, receiverOf, pairChecks, pairRefusal, firstPairRefusal, firstPairOf, noPair}
 use Rattle.deal.specs.declared.pairs.PairAnswer.{PairAnswer}
 use Rattle.deal.proofs.JudgeLaws.{pair-numbered, sending-dealable, receiving-dealable}
+use Rattle.deal.proofs.DealIsWhole.{all-dealt}
 
 -- ---- the judgement
 module _ (ss : List ℕ) (su sr : ℕ) (rs : List ℕ) (ru rr q k n : ℕ) where
@@ -55,6 +56,9 @@ module _ (s : List ℕ) (q : ℕ) (h : Dealable s q) where
   pub slot-fits : (x : ℕ) → Fits w32 (x % q)
   slot-fits x = record { fits = omega (arith, mod-lt x {m = q} (omega (arith, h .some-quantum)), h .small-quantum) }
 
+  pub slot-below : (x : ℕ) → x % q < q
+  slot-below x = mod-lt x {m = q} (omega (arith, h .some-quantum))
+
   -- slot and quantum number together are no more than what they are made of
   pub turn-fits : (x : ℕ) → Fits w64 x → Fits w64 (x % q + x / q)
   turn-fits x f =
@@ -77,7 +81,11 @@ module _ (s : List ℕ) (q : ℕ) (places z : List ℕ) (e : places ≡ countsOf
   pub places-few : length (take (length s) places) ≤ 64
   places-few = omega (arith, places-cut, h .few-members)
 
-pub owner-told : (s : List ℕ) (q slot r : ℕ) (places z : List ℕ) → places ≡ countsOf s q ++ drop (length s) z
-    → r ≡ ownerOf (take (length s) places) q slot → r ≡ ownerOf (countsOf s q) q slot
-owner-told s q slot r places z e f =
-    f ∙ ap (λ (c : List ℕ). ownerOf c q slot) (rw e (take-at (countsOf s q) (drop (length s) z) (length s) (length-counts s q)))
+  places-are : take (length s) places ≡ countsOf s q
+  places-are = rw e (take-at (countsOf s q) (drop (length s) z) (length s) (length-counts s q))
+
+  pub places-whole : slotsBefore (take (length s) places) q ≡ q
+  places-whole = ap (λ (c : List ℕ). slotsBefore c q) places-are ∙ all-dealt s q h
+
+  pub owner-told : (slot at r : ℕ) → at ≡ slot → r ≡ ownerOf (take (length s) places) q at → r ≡ ownerOf (countsOf s q) q slot
+  owner-told slot at r f g = g ∙ ap (λ (c : List ℕ). ownerOf c q at) places-are ∙ ap (ownerOf (countsOf s q) q) f

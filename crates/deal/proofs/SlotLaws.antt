@@ -50,12 +50,6 @@ module _ (c : List ℕ) (t : ℕ) where
     | no k ↦ absurd (omega (arith, simp (le-ltb t (getD c i 0) (omega arith)) at f))
   ]
 
-  pub member-none : (i place n : ℕ) → i ≤ length c → length c ≤ i → n ≡ howMany i still → n ≤ place → 0 ≡ getD (roundOf c t) place 0
-  unfolding roundOf
-  member-none i place n a b e l =
-      let z : i ≡ length c = omega arith in
-      join-past taken (length c) place (omega (arith, first-members (length c), ap (λ (j : ℕ). howMany j still) z))
-
 -- ---- the slots of the first rounds
 pub slots-none : (c : List ℕ) → slotsBefore c 0 ≡ 0
 unfolding slotsBefore

@@ -1,6 +1,8 @@
 // The first copy of a message: who sends it, and to whom.
-use crate::slots::slot_owner;
+use crate::dealer::dealer_at;
+use crate::dealer::fallen;
 ghost use mathlib.Core.Path.{_≡_};
+ghost use Prim.Native.Nat.{_<_};
 ghost use Rattle.hamilton.specs.Hamilton.{countsOf, Dealable};
 ghost use Rattle.deal.specs.Rounds.{ownerOf};
 ghost use Rattle.deal.specs.Pairs.{senderOf, receiverOf, pairRefusal, firstPairRefusal, firstPairOf};
@@ -14,13 +16,15 @@ pub struct PairAnswer {
 
 // The owner of a slot in the cluster's deal.
 fn owner(shares: &[u32], q: u32, slot: u32) -> u32
-    requires { ⌜ Dealable (now shares) q ⌝ }
+    requires { ⌜ (Dealable (now shares) q) × (slot < q) ⌝ }
     ensures { λ r. ⌜ r ≡ ownerOf (countsOf (now (shares .entry)) q) q slot ⌝ }
 {
     let mut places = [0u32; 64];
     hamilton::fill_counts(shares, q, &mut places);
     let n = shares.len();
-    slot_owner(&places[..n], q, slot)
+    let at = dealer_at(&places[..n], q, slot);
+    let turn = fallen(&places[..n], q, at);
+    turn.member
 }
 
 // Who sends the first copy of message k.

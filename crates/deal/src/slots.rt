@@ -1,10 +1,10 @@
-// The owner of a slot, without listing the deal: its round by halving, then one pass over the members.
+// The rounds of a deal, without listing it: a slot's round by halving.
 ghost use mathlib.Core.Path.{_≡_};
 ghost use mathlib.Core.Bool.{cond};
 ghost use Prim.Native.Nat.{_+_, _≤_, _<_, min};
 ghost use lib.Dec.{ltb};
-ghost use lib.ListN.{length, getD};
-ghost use Rattle.deal.specs.Rounds.{roundOf, slotsBefore, ownerOf};
+ghost use lib.ListN.{length};
+ghost use Rattle.deal.specs.Rounds.{slotsBefore};
 
 // The slots that a member with this count takes in the first t rounds.
 fn slots_taken(count: u32, t: u32) -> u64
@@ -61,36 +61,4 @@ pub(crate) fn takes_slot(count: u32, t: u32) -> u64
     ensures { λ r. ⌜ (r ≡ cond (ltb t count) 1 0) × (r ≤ 1) ⌝ }
 {
     if t < count { 1 } else { 0 }
-}
-
-// The member at a place of round t.
-fn member_at(counts: &[u32], t: u32, place: u64) -> u32
-    requires { ⌜ length (now counts) ≤ 64 ⌝ }
-    ensures { λ r. ⌜ r ≡ getD (roundOf (now (counts .entry)) t) place 0 ⌝ }
-{
-    let mut seen: u64 = 0;
-    let mut i = 0;
-    while i < counts.len() {
-        seen += takes_slot(counts[i], t);
-        if place < seen {
-            return i as u32;
-        }
-        i += 1;
-    }
-    0
-}
-
-// The owner of a slot in the deal of these counts.
-// inner: for a caller that holds the counts of an accepted cluster, which has at most 64 members.
-pub fn slot_owner(counts: &[u32], q: u32, slot: u32) -> u32
-    requires { ⌜ length (now counts) ≤ 64 ⌝ }
-    ensures { λ r. ⌜ r ≡ ownerOf (now (counts .entry)) q slot ⌝ }
-{
-    let s = slot as u64;
-    if slots_before(counts, q) <= s {
-        return 0;
-    }
-    let t = round_with(counts, q, s);
-    let place = basics::less(s, slots_before(counts, t));
-    member_at(counts, t, place)
 }

@@ -2,7 +2,7 @@
 use mathlib.Core.Path.{_≡_, ap, _∙_}
 use mathlib.Core.List.{List}
 use Prim.Native.Nat.{ℕ, _+_, _-_, _%_, _≤_, _<_}
-use native.Mathlib.Nat.{mod-lt, mod-add-mod}
+use native.Mathlib.Nat.{mod-add-mod}
 use native.Mathlib.Omega.{arith}
 use lib.ListN.{length}
 use mir.Val.{Fits}
@@ -12,7 +12,7 @@ use Rattle.hamilton.proofs.JudgeLaws.{length-counts}
 use Rattle.deal.specs.Rounds.{slotsBefore, ownerOf}
 use Rattle.deal.specs.Pairs.{senderOf}
 use Rattle.deal.specs.Dealing.{Fallen}
-use Rattle.deal.proofs.PairLaws.{slot-fits, sender-told}
+use Rattle.deal.proofs.PairLaws.{slot-fits, slot-below, sender-told}
 use Rattle.deal.proofs.DealIsWhole.{all-dealt}
 use Rattle.verdicts.specs.Written.{Ready}
 
@@ -30,7 +30,7 @@ module _ (ss rs slots : List ℕ) (q : ℕ) (y : Ready ss rs slots q) where
   ready-slot x = slot-fits ss q (y .deals) x
 
   pub ready-below : (x : ℕ) → x % q < q
-  ready-below x = mod-lt x {m = q} (omega (arith, y .deals .some-quantum))
+  ready-below x = slot-below ss q (y .deals) x
 
   -- the member that a slot falls to
   pub dealt-member : (slot t i : ℕ) → Fallen slots q slot t i → i < length ss

@@ -1,5 +1,5 @@
 -- The slot is the definition's, and the sum on the way does not wrap.
-use Rattle.deal.proofs.PairLaws.{slot-fits, turn-fits, receiver-told}
+use Rattle.deal.proofs.PairLaws.{slot-below, slot-fits, turn-fits, receiver-told}
 use borrow.Author.Needs.{needs}
 use Rattle.deal.proofs.pairs.first_receiver.Statement.{statement}
 use Rattle.deal.proofs.pairs.first_receiver.Tie as tie
@@ -23,7 +23,7 @@ cast-owner : tie.Need-cast-owner
 cast-owner c = search slot-fits
 
 owner-requires : tie.Need-owner-requires
-owner-requires c κs = search needs
+owner-requires c κs = (search needs, search (slot-below, needs))
 
 returns : tie.Need-returns
 returns c = search receiver-told

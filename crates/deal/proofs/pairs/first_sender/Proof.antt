@@ -1,5 +1,5 @@
 -- The slot is the definition's.
-use Rattle.deal.proofs.PairLaws.{slot-fits, sender-told}
+use Rattle.deal.proofs.PairLaws.{slot-below, slot-fits, sender-told}
 use borrow.Author.Needs.{needs}
 use Rattle.deal.proofs.pairs.first_sender.Statement.{statement}
 use Rattle.deal.proofs.pairs.first_sender.Tie as tie
@@ -14,7 +14,7 @@ cast-owner : tie.Need-cast-owner
 cast-owner c = search slot-fits
 
 owner-requires : tie.Need-owner-requires
-owner-requires c κs = search needs
+owner-requires c κs = (search needs, search (slot-below, needs))
 
 returns : tie.Need-returns
 returns c = search sender-told

@@ -1,5 +1,5 @@
--- The counts in the local array, cut to the members, are the cluster's counts.
-use Rattle.deal.proofs.PairLaws.{places-cut, places-few, owner-told}
+-- The counts in the local array, cut to the members, are the cluster's counts, and fill the quantum.
+use Rattle.deal.proofs.PairLaws.{places-cut, places-few, places-whole, owner-told}
 use borrow.Author.Needs.{needs}
 use Rattle.deal.proofs.pairs.owner.Statement.{statement}
 use Rattle.deal.proofs.pairs.owner.Tie as tie
@@ -13,14 +13,23 @@ fill-counts-requires c κs = search needs
 array-share-prefix-places : tie.Need-array-share-prefix-places
 array-share-prefix-places c = search needs
 
-slice-aggregate-slot-owner : tie.Need-slice-aggregate-slot-owner
-slice-aggregate-slot-owner c = search (places-cut, needs)
+slice-aggregate-dealer-at : tie.Need-slice-aggregate-dealer-at
+slice-aggregate-dealer-at c = search (places-cut, needs)
 
-slot-owner-requires : tie.Need-slot-owner-requires
-slot-owner-requires c κs = search (places-few, needs)
+dealer-at-requires : tie.Need-dealer-at-requires
+dealer-at-requires c κs = (search (places-few, needs), search (places-whole, needs), search needs)
+
+array-share-prefix-places-2 : tie.Need-array-share-prefix-places-2
+array-share-prefix-places-2 c = search needs
+
+slice-aggregate-fallen : tie.Need-slice-aggregate-fallen
+slice-aggregate-fallen c = search (places-cut, needs)
+
+fallen-requires : tie.Need-fallen-requires
+fallen-requires c κs = (search (places-few, needs), search needs)
 
 returns : tie.Need-returns
-returns c = search owner-told
+returns c = search (owner-told, needs)
 
 pub owner-spec : {M : Type 1} → statement M
 owner-spec =
@@ -29,6 +38,9 @@ owner-spec =
     slice-aggregate-fill-counts
     fill-counts-requires
     array-share-prefix-places
-    slice-aggregate-slot-owner
-    slot-owner-requires
+    slice-aggregate-dealer-at
+    dealer-at-requires
+    array-share-prefix-places-2
+    slice-aggregate-fallen
+    fallen-requires
     returns)
