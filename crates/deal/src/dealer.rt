@@ -1,4 +1,4 @@
-// Dealing slot after slot: for a caller that asks for the owners of many slots in a row, and need not look each one up.
+// Places in the deal: the owner of a slot, and of those that follow it, none of which need then be looked up again.
 use crate::slots::round_with;
 use crate::slots::slots_before;
 use crate::slots::takes_slot;

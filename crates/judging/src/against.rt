@@ -9,8 +9,7 @@ ghost use Rattle.shares.specs.Shares.{shareOf};
 ghost use Rattle.judging.specs.Verdicts.{enoughAgainst, complainersOf};
 
 // The members that complain of anything at all.
-// inner: for the verdicts that are due.
-pub fn complainers(complaints: &[u64; 64]) -> u64
+pub(crate) fn complainers(complaints: &[u64; 64]) -> u64
     ensures { λ r. ⌜ r ≡ complainersOf (now (complaints .entry)) 64 ⌝ }
 {
     let mut any: u64 = 0;
