@@ -5,7 +5,7 @@ use mathlib.Core.List.{List, [], _∷_, _++_}
 use Prim.Native.Nat.{ℕ, zero, suc, _+_, _*_, _≤_, _<_, zero-le}
 use native.Mathlib.Nat.{add-mul, zero-mul, add-zero, add-suc}
 use native.Mathlib.Numerals.{add-one}
-use native.Mathlib.Decide.{decLt}
+use native.Mathlib.Decide.{decLt, decLe}
 use native.Mathlib.Omega.{arith}
 use lib.ListN.{length, getD, drop, set, length-append, List·getD-append}
 use lib.Seq.{drop-cons, set-at, append-snoc, getD-at, ext-getD}
@@ -75,6 +75,19 @@ sum-part f (suc n) j l = elim (decLt j n) [
   | yes m ↦ omega (arith, sum-part f n j m)
   | no m ↦ (let e : j ≡ n = omega arith in rw e (omega arith))
 ]
+
+-- nor are the first of them more
+pub sum-grows : (f : ℕ → ℕ) (m n : ℕ) → m ≤ n → sumBelow m f ≤ sumBelow n f
+unfolding sumBelow
+sum-grows f m zero l = (let z : m ≡ 0 = omega arith in rw z (omega arith))
+sum-grows f m (suc n) l = elim (decLe m n) [
+  | yes k ↦ omega (arith, sum-grows f m n k)
+  | no k ↦ (let z : m ≡ suc n = omega arith in rw z (omega arith))
+]
+
+-- so that a bound on all of them is one on what a loop has of them
+pub sum-within : (f : ℕ → ℕ) {i n t r b : ℕ} → t ≡ sumBelow i f → r ≡ f i → i < n → sumBelow n f ≤ b → t + r ≤ b
+sum-within f {i} {n} {t} {r} {b} p q l m = omega (arith, sum-turn f {i = i} {t = t} {r = r} p q, sum-grows f (i + 1) n (omega arith))
 
 -- the first one set apart: how a sum by index meets one along a list
 pub sum-front : (f : ℕ → ℕ) (n : ℕ) → sumBelow (suc n) f ≡ f 0 + sumBelow n (λ j. f (suc j))

@@ -2,17 +2,19 @@
 use mathlib.Core.Path.{_≡_, refl, ap, sym, _∙_}
 use mathlib.Core.Bool.{cond}
 use mathlib.Core.List.{List}
-use Prim.Native.Nat.{ℕ, zero, suc, _+_, _-_, _%_, _≤_, _<_, zero-le, min}
-use native.Mathlib.Nat.{add-zero, add-suc, mod-eq-of-lt, mod-self}
+use Prim.Native.Nat.{ℕ, zero, suc, _+_, _-_, _*_, _/_, _%_, _≤_, _<_, zero-le, min}
+use native.Mathlib.Nat.{add-zero, add-suc, add-mul, mul-comm, mul-div-le, le-div-iff-mul-le, mod-eq-of-lt, mod-self}
 use native.Mathlib.Decide.{decLt}
 use native.Mathlib.Numerals.{add-one}
 use native.Mathlib.Omega.{arith}
+use mir.Syntax.{w32}
+use mir.Val.{Fits}
 use lib.Dec.{ltb}
 use lib.ListN.{length, getD}
-use borrow.Author.Tests.{lt-ltb, le-ltb}
-use Rattle.basics.proofs.SumLaws.{sum-mono, sum-part}
-use Rattle.basics.proofs.HowManyLaws.{one, many-none, many-suc, many-turn}
-use Rattle.basics.specs.Sums.{howMany}
+use borrow.Author.Tests.{lt-ltb, le-ltb, ltb-true}
+use Rattle.basics.proofs.SumLaws.{sum-mono, sum-part, sum-within}
+use Rattle.basics.proofs.HowManyLaws.{one, many-none, many-suc, many-turn, many-done, many-mono}
+use Rattle.basics.specs.Sums.{sumBelow, howMany}
 use Rattle.deal.specs.Rounds.{roundOf, slotsBefore, ownerOf}
 use Rattle.deal.specs.Dealing.{takersBefore, Dealing, Fallen}
 use Rattle.deal.proofs.SlotLaws.{still, length-round, member-found, slots-none, slots-suc, owner-at}
@@ -32,6 +34,10 @@ module _ (c : List ℕ) (t : ℕ) where
   takers-skip i from e l =
       let none : _≡_ {A = ℕ} 0 (cond (ltb t (getD c i 0)) 1 0) = simp (le-ltb t (getD c i 0) l) in
       omega (arith, takers-turn i (takersBefore c t i) 0 refl none)
+
+  pub takers-done : {i n : ℕ} → n ≡ takersBefore c t i → i ≤ length c → length c ≤ i → n ≡ takersBefore c t (length c)
+  unfolding takersBefore
+  takers-done e a b = many-done (still c t) e a b
 
   -- past the last member there are no more takers
   pub takers-end : (i seen place : ℕ) → i ≤ length c → length c ≤ i → seen ≡ takersBefore c t i → seen ≤ place → place ≤ takersBefore c t (length c) → takersBefore c t i ≡ place
@@ -69,9 +75,66 @@ slots-mono : (c : List ℕ) (s t : ℕ) → s ≤ t → slotsBefore c s ≤ slot
 unfolding slotsBefore
 slots-mono c s t l = sum-mono (λ i. min (getD c i 0) s) (λ i. min (getD c i 0) t) (length c) (λ i k. omega arith)
 
--- ---- the place of a slot
-pub place-few : (c : List ℕ) (slot t n place : ℕ) → n ≡ slotsBefore c t → place ≡ slot - n → slot < slotsBefore c (t + 1) → place ≤ takersBefore c t (length c)
-place-few c slot t n place en ep h = omega (arith, slots-next c t)
+-- a round's slots, member by member
+pub slots-within : (c : List ℕ) (t i n r : ℕ) → n ≡ sumBelow i (λ j. min (getD c j 0) t) → r ≡ min (getD c i 0) t → i < length c
+    → sumBelow (length c) (λ j. min (getD c j 0) t) ≤ 4294967295 → Fits w32 (n + r)
+slots-within c t i n r e f l m = record { fits = omega (arith, sum-within (λ j. min (getD c j 0) t) {i = i} e f l m) }
+
+-- ---- the search for a slot's round
+-- no later round has more takers
+takers-fewer : (c : List ℕ) (t d n : ℕ) → takersBefore c (t + d) n ≤ takersBefore c t n
+unfolding takersBefore
+takers-fewer c t d n = many-mono (still c (t + d)) (still c t) n (λ i l h. lt-ltb t (getD c i 0) (omega (arith, ltb-true (t + d) (getD c i 0) h)))
+
+slots-ahead : (c : List ℕ) (t d : ℕ) → slotsBefore c (t + d) ≤ slotsBefore c t + d * takersBefore c t (length c)
+slots-ahead c t zero = omega (arith, ap (slotsBefore c) (add-zero t))
+slots-ahead c t (suc d) =
+    omega (
+      arith,
+      slots-ahead c t d,
+      slots-next c (t + d),
+      takers-fewer c t d (length c),
+      ap (slotsBefore c) (add-suc t d),
+      ap (slotsBefore c) (add-one (t + d)),
+      add-mul d 1 (takersBefore c t (length c)),
+      ap (λ (k : ℕ). k * takersBefore c t (length c)) (add-one d),
+    )
+
+pub first-small : (c : List ℕ) → slotsBefore c 0 ≤ 4294967295
+first-small c = omega (arith, slots-none c)
+
+pub first-slots : (c : List ℕ) (slot : ℕ) → slotsBefore c 0 + slot ≡ slot
+first-slots c slot = omega (arith, slots-none c)
+
+module _ (c : List ℕ) (q slot : ℕ) (h : slot < slotsBefore c q) where
+  -- whatever round a slot is not before is one of the q
+  round-early : (t : ℕ) → slotsBefore c t ≤ slot → t < q
+  round-early t l = elim (decLt t q) [
+    | yes k ↦ k
+    | no k ↦ absurd (omega (arith, slots-mono c q t (omega arith)))
+  ]
+
+  pub first-early : 0 < q
+  first-early = round-early 0 (omega (arith, slots-none c))
+
+  module _ (t left takers : ℕ) (e : slotsBefore c t + left ≡ slot) (f : takers ≡ takersBefore c t (length c)) where
+    pub some-takers : 0 < takers
+    some-takers = elim (decLt 0 takers) [
+      | yes k ↦ k
+      | no k ↦ absurd (omega (arith, no-later c t q (omega arith)))
+    ]
+
+    pub past-reached : slotsBefore c (t + left / takers) ≤ slot
+    past-reached = omega (arith, slots-ahead c t (left / takers), mul-div-le left takers, mul-comm takers (left / takers), ap (λ (x : ℕ). left / takers * x) f)
+
+    pub past-early : t + left / takers < q
+    past-early = round-early (t + left / takers) past-reached
+
+    pub past-fits : Fits w32 q → Fits w32 (t + left / takers)
+    past-fits w = record { fits = omega (arith, past-early, w .fits) }
+
+    pub past-later : takers ≤ left → t < t + left / takers
+    past-later l = omega (arith, (le-div-iff-mul-le {k = takers} {x = 1} {y = left} some-takers) .1 (omega arith))
 
 -- ---- the owner of a slot, and the next one
 module _ (c : List ℕ) (q slot t i : ℕ) (f : Fallen c q slot t i) where

@@ -100,28 +100,3 @@ round-below c t s p = join-below (taken c t) (length c) p (length c) (λ i n l. 
 pub owner-below : (c : List ℕ) (q slot : ℕ) → 0 < length c → ownerOf c q slot < length c
 unfolding ownerOf dealOf
 owner-below c q slot p = join-below (roundOf c) (length c) p q (λ i s l. round-below c i s p) slot
-
--- ---- the search for a slot's round
--- each round has at most a slot for each member
-slots-most : (c : List ℕ) (t : ℕ) → slotsBefore c t ≤ length c * t
-unfolding slotsBefore
-slots-most c t = sum-bound (λ i. min (getD c i 0) t) t (length c) (λ j l. omega arith)
-
-module _ (c : List ℕ) (q slot : ℕ) (h : slot < slotsBefore c q) where
-  pub some-member : 0 < length c
-  some-member = elim (decLt 0 (length c)) [
-    | yes l ↦ l
-    | no l ↦ (let z : length c ≡ 0 = omega arith in absurd (omega (arith, slots-most c q, ap (λ (n : ℕ). n * q) z, zero-mul q)))
-  ]
-
-  pub earliest-below : slot / length c < q
-  earliest-below = (div-lt-iff-lt-mul some-member) .1 (omega (arith, slots-most c q, mul-comm (length c) q))
-
-  pub earliest-fits : Fits w32 q → Fits w32 (slot / length c)
-  earliest-fits f = record { fits = omega (arith, earliest-below, f .fits) }
-
-  pub earliest-reached : slotsBefore c (slot / length c) ≤ slot
-  earliest-reached = omega (arith, slots-most c (slot / length c), mul-div-le slot (length c))
-
-pub round-found : (c : List ℕ) (lo hi slot : ℕ) → lo < hi → hi - lo ≤ 1 → slot < slotsBefore c hi → slot < slotsBefore c (lo + 1)
-round-found c lo hi slot a b l = let z : hi ≡ lo + 1 = omega arith in rw z at l

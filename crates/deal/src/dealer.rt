@@ -1,6 +1,5 @@
 // Places in the deal: the owner of a slot, and of those that follow it, none of which need then be looked up again.
-use crate::slots::round_with;
-use crate::slots::slots_before;
+use crate::slots::spot_of;
 use crate::slots::takes_slot;
 ghost use mathlib.Core.Path.{_≡_};
 ghost use Prim.Native.Nat.{_+_, _%_, _≤_, _<_};
@@ -31,11 +30,11 @@ fn taker_from(counts: &[u32], t: u32, from: u32) -> u32
 }
 
 // The member before which just so many take a slot in round t.
-fn member_past(counts: &[u32], t: u32, place: u64) -> u32
+fn member_past(counts: &[u32], t: u32, place: u32) -> u32
     requires { ⌜ (length (now counts) ≤ 64) × (place ≤ takersBefore (now counts) t (length (now counts))) ⌝ }
     ensures { λ r. ⌜ (r ≤ length (now (counts .entry))) × (takersBefore (now (counts .entry)) t r ≡ place) ⌝ }
 {
-    let mut seen: u64 = 0;
+    let mut seen: u32 = 0;
     let mut i = 0;
     while i < counts.len() {
         if seen == place {
@@ -53,12 +52,11 @@ pub fn dealer_at(counts: &[u32], q: u32, slot: u32) -> Dealer
     requires { ⌜ (length (now counts) ≤ 64) × (slotsBefore (now counts) q ≡ q) × (slot < q) ⌝ }
     ensures { λ d. ⌜ (d .slot ≡ slot) × (Dealing (now (counts .entry)) q (d .slot) (d .round) (d .member)) ⌝ }
 {
-    let round = round_with(counts, q, slot as u64);
-    let place = basics::less(slot as u64, slots_before(counts, round));
-    let member = member_past(counts, round, place);
+    let spot = spot_of(counts, q, slot);
+    let member = member_past(counts, spot.round, spot.place);
     Dealer {
         slot,
-        round,
+        round: spot.round,
         member,
     }
 }

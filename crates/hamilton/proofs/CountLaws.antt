@@ -3,8 +3,7 @@ use mathlib.Core.Path.{_≡_, refl, ap, sym, _∙_}
 use mathlib.Core.Bool.{Bool, true, false, cond}
 use mathlib.Core.List.{List, _++_}
 use Prim.Native.Nat.{ℕ, zero, suc, _+_, _*_, _-_, _/_, _%_, _^_, _≤_, _<_}
-use native.Mathlib.Decide.{decLe}
-use native.Mathlib.Nat.{mul-le-mul-left}
+use native.Mathlib.Nat.{mul-le-mul-left, mul-le-mul-right}
 use native.Mathlib.Omega.{arith}
 use lib.Dec.{ltb}
 use lib.ListN.{length, getD, drop, set, List·getD-append}
@@ -12,7 +11,7 @@ use lib.Seq.{drop-cons, drop-at, getD-at}
 use mir.Val.{Fits, boolByte}
 use mir.Syntax.{w32, w64}
 use Rattle.basics.specs.Sums.{sumBelow, howMany, listBelow}
-use Rattle.basics.proofs.SumLaws.{sum-more, sum-part, length-list, list-turn, list-at, list-is}
+use Rattle.basics.proofs.SumLaws.{sum-more, sum-grows, sum-part, length-list, list-turn, list-at, list-is}
 use Rattle.shares.specs.Shares.{totalOf}
 use Rattle.hamilton.specs.Hamilton.{quotaOf, remainderOf, undealtOf, countOf, countsOf, Dealable}
 use Rattle.basics.proofs.HowManyLaws.{one, many-cong}
@@ -25,14 +24,6 @@ product a b f g =
     record { fits = omega (arith, f .fits) }
 
 -- ---- sums and lists by index
-sum-grows : (f : ℕ → ℕ) (m n : ℕ) → m ≤ n → sumBelow m f ≤ sumBelow n f
-unfolding sumBelow
-sum-grows f m zero l = (let z : m ≡ 0 = omega arith in rw z (omega arith))
-sum-grows f m (suc n) l = elim (decLe m n) [
-  | yes k ↦ omega (arith, sum-grows f m n k)
-  | no k ↦ (let z : m ≡ suc n = omega arith in rw z (omega arith))
-]
-
 list-front : (f : ℕ → ℕ) (n i : ℕ) (z : List ℕ) → i < n → getD (listBelow n f ++ z) i 0 ≡ f i
 list-front f n i z l = List·getD-append (listBelow n f) z 0 i (omega (arith, length-list f n)) ∙ list-at f 0 n i l
 
@@ -50,26 +41,36 @@ quota-le s q h i l = omega (arith, sum-part (quotaOf s q) (length s) i l, quotas
 
 module _ (s : List ℕ) (q d i : ℕ) (h : Dealable s q) (e : d ≡ totalOf s) where
   module _ (x : ℕ) (f : x ≡ getD s i 0 * q) where
-    pub quota-told : x / d ≡ quotaOf s q i
-    unfolding quotaOf
-    quota-told = rw (f, e) refl
+    -- no share is above the total
+    pub product-small : i < length s → x ≤ d * 1024
+    unfolding totalOf
+    product-small l =
+        omega (
+          arith,
+          f,
+          e,
+          mul-le-mul-right q (sum-part (λ j. getD s j 0) (length s) i l),
+          mul-le-mul-left (sumBelow (length s) (λ j. getD s j 0)) (h .small-quantum),
+        )
 
     remainder-told : x % d ≡ remainderOf s q i
     unfolding remainderOf
     remainder-told = rw (f, e) refl
 
-    pub quota-fits : i < length s → Fits w32 (x / d)
-    quota-fits l = record { fits = omega (arith, quota-told, quota-le s q h i l) }
-
     pub key-told : (v : ℕ) → v ≡ (d - x % d) * 64 + i → v ≡ key s q i
     key-told v k = k ∙ rw (remainder-told, e) refl
 
-    module _ (rest : ℕ) (l : i < length s) (u : rest + sumBelow i (quotaOf s q) ≡ q) where
-      pub undealt-fits : x / d ≤ rest
-      undealt-fits = omega (arith, quotas-le s q h, sum-grows (quotaOf s q) (i + 1) (length s) (omega arith), sum-more (quotaOf s q) i, quota-told)
+    module _ (low : ℕ) (g : low ≡ x / d) where
+      pub quota-told : low ≡ quotaOf s q i
+      unfolding quotaOf
+      quota-told = rw (g, f, e) refl
 
-      pub undealt-turn : rest - x / d + sumBelow (i + 1) (quotaOf s q) ≡ q
-      undealt-turn = omega (arith, undealt-fits, sum-more (quotaOf s q) i, quota-told)
+      module _ (rest : ℕ) (l : i < length s) (u : rest + sumBelow i (quotaOf s q) ≡ q) where
+        pub undealt-fits : low ≤ rest
+        undealt-fits = omega (arith, quotas-le s q h, sum-grows (quotaOf s q) (i + 1) (length s) (omega arith), sum-more (quotaOf s q) i, quota-told)
+
+        pub undealt-turn : rest - low + sumBelow (i + 1) (quotaOf s q) ≡ q
+        undealt-turn = omega (arith, undealt-fits, sum-more (quotaOf s q) i, quota-told)
 
 pub undealt-start : (s : List ℕ) (q : ℕ) → q + sumBelow 0 (quotaOf s q) ≡ q
 unfolding sumBelow

@@ -2,6 +2,7 @@
 pub mod RankLaws
 pub mod QuotaLaws
 pub mod CountLaws
+pub mod InverseLaws
 pub mod JudgeLaws
 pub mod CountsAddUp
 pub mod Unique

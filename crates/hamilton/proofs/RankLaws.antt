@@ -1,9 +1,9 @@
 -- Where members are ranked by keys that differ, just m of them have a rank below m, and a number parts them from the others. Assumes nothing.
-use mathlib.Core.Path.{_≡_, refl, ap, _∙_}
+use mathlib.Core.Path.{_≡_, refl, ap, sym, _∙_}
 use mathlib.Core.Bool.{Bool}
 use Prim.Native.Nat.{ℕ, zero, suc, _+_, _-_, _%_, _<_, _≤_}
 use native.Mathlib.Decide.{decLt}
-use native.Mathlib.Nat.{mod-lt}
+use native.Mathlib.Nat.{mod-lt, mod-eq-of-lt, add-mod-right}
 use native.Mathlib.Omega.{arith}
 use lib.Dec.{ltb}
 use borrow.Author.Tests.{lt-ltb, le-ltb, ltb-true}
@@ -17,6 +17,17 @@ ltb-same a b x y f g = same-test (ltb a b) (ltb x y) (λ t. lt-ltb x y (f (ltb-t
 -- the next of n places, counted round: there is one where one is below n
 pub next-place : (a n m : ℕ) → m < n → a % n < n
 next-place a n m l = mod-lt a (omega arith)
+
+pub next-member : (r a n m : ℕ) → r ≡ a % n → m < n → r < n
+next-member r a n m e l = rw e (next-place a n m l)
+
+pub next-within : (a n : ℕ) → a < n → a ≡ a % n
+next-within a n l = sym (mod-eq-of-lt l)
+
+pub next-again : (m d n : ℕ) → m < n → d < n → n ≤ m + d → m + d - n ≡ (m + d) % n
+next-again m d n a b l =
+    let e : m + d ≡ m + d - n + n = omega arith in
+    sym (ap (λ (x : ℕ). x % n) e ∙ add-mod-right (m + d - n) n ∙ mod-eq-of-lt (omega arith))
 
 -- how many of the first n have a smaller key than k
 abbrev pub under : (ℕ → ℕ) → ℕ → ℕ → ℕ

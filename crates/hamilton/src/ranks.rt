@@ -1,7 +1,7 @@
 // Which members come first: a number that parts their keys.
 ghost use mathlib.Core.Path.{_≡_};
 ghost use mathlib.Core.Bool.{cond};
-ghost use Prim.Native.Nat.{ℕ, _+_, _*_, _≤_, _<_};
+ghost use Prim.Native.Nat.{ℕ, _+_, _*_, _%_, _≤_, _<_};
 ghost use lib.Dec.{ltb};
 ghost use lib.ListN.{getD};
 ghost use Rattle.basics.specs.Sums.{howMany};
@@ -41,6 +41,15 @@ fn between(key: u32, low: u32, high: u32) -> u32
     low + (high - low) / 2
 }
 
+// The member so many places after another, after the last one the first again.
+fn member_after(member: usize, step: usize, n: usize) -> usize
+    requires { ⌜ (member < n) × (step < n) × (n ≤ 64) ⌝ }
+    ensures { λ r. ⌜ r ≡ (member + step) % n ⌝ }
+{
+    let next = member + step;
+    if next < n { next } else { next - n }
+}
+
 // A number that just `rest` of n keys are below. No two keys are equal, so that there is one. With equal remainders it is
 // the key of member `rest`, tried first; then come members far apart, since neighbours with equal shares have nearly equal keys.
 pub(crate) fn threshold(keys: &[u32; 64], n: usize, rest: u32, end: u32) -> u32
@@ -52,12 +61,13 @@ pub(crate) fn threshold(keys: &[u32; 64], n: usize, rest: u32, end: u32) -> u32
     if rest == 0 {
         return 0;
     }
+    let step = 37 % n;
     let mut low = 0;
     let mut high = end;
     let mut member = rest as usize;
     while low + 1 < high {
         let mid = between(keys[member], low, high);
-        member = (member + 37) % n;
+        member = member_after(member, step, n);
         let found = below(keys, n, mid);
         if found == rest {
             return mid;

@@ -1,17 +1,18 @@
 -- What an accepted cluster is, from the answer 0 and back, and the sizes that follow. Assumes nothing.
-use mathlib.Core.Path.{_≡_}
-use mathlib.Core.Bool.{true, false, _&&_}
+use mathlib.Core.Path.{_≡_, refl, sym, _∙_}
+use mathlib.Core.Bool.{Bool, true, false, _&&_}
 use mathlib.Core.List.{List}
-use Prim.Native.Nat.{ℕ, _+_, _*_, _≤_, _<_}
+use Prim.Native.Nat.{ℕ, _+_, _*_, _%_, _≤_, _<_}
+use native.Mathlib.Nat.{mod-eq-of-lt}
 use native.Mathlib.Omega.{arith}
 use lib.Dec.{leb, lit<}
 use lib.ListN.{length, getD}
 use borrow.Author.Tests.{le-leb, lt-leb, leb-true}
 use Rattle.basics.specs.Checks.{firstFailing}
 use Rattle.basics.proofs.BoolLaws.{and-both, and-left, and-right, and-not-left, and-not-right}
-use Rattle.basics.proofs.SumLaws.{all-at, all-of, sum-bound}
+use Rattle.basics.proofs.SumLaws.{all-at, all-of, sum-cong, sum-bound}
 use Rattle.basics.proofs.CheckLaws.{first-passed, later-passed, Numbered, checks}
-use Rattle.shares.specs.Shares.{totalOf}
+use Rattle.shares.specs.Shares.{totalOf, lowTotalOf}
 use Rattle.shares.specs.Cluster.{membersFit, isShare, sharesFit, boundsFit, clusterChecks, clusterRefusal, Accepted}
 
 -- ---- the checks, from what the code knows where it answers
@@ -27,9 +28,29 @@ pub members-fit : (s : List ℕ) → 1 ≤ length s → length s ≤ 64 → memb
 unfolding membersFit
 members-fit s l m = and-both (leb 1 (length s)) (leb (length s) 64) (le-leb 1 (length s) l) (le-leb (length s) 64 m)
 
-pub bounds-told : (s : List ℕ) (u r d : ℕ) → d ≡ totalOf s → (leb r u && leb (2 * u + r + 1) d) ≡ boundsFit s u r
-unfolding boundsFit
-bounds-told s u r d e = cc
+-- an allowed share has no more than 20 bits
+low-bits : (x : ℕ) → isShare x ≡ true → x % 1048576 ≡ x
+unfolding isShare
+low-bits x e = mod-eq-of-lt (omega (arith, leb-true x 1000000 (and-right (leb 1 x) (leb x 1000000) e)))
+
+module _ (s : List ℕ) (u r d : ℕ) (fit : Bool) (f : fit ≡ sharesFit s) (t : fit ≡ true) (e : d ≡ lowTotalOf s) where
+  total-told : d ≡ totalOf s
+  unfolding totalOf lowTotalOf sharesFit
+  total-told =
+      e ∙ sum-cong (λ i. getD s i 0 % 1048576) (λ i. getD s i 0) (length s) (λ i l. low-bits (getD s i 0) (all-at (λ j. isShare (getD s j 0)) (length s) (sym f ∙ t) i l))
+
+  module _ (b : Bool) (g : b ≡ (leb r u && leb (2 * u + r + 1) d)) (l : 1 ≤ length s) (m : length s ≤ 64) where
+    bounds-told : b ≡ boundsFit s u r
+    unfolding boundsFit
+    bounds-told = g ∙ rw total-told refl
+
+    pub bounds-refused : b ≡ false → 3 ≡ clusterRefusal s u r
+    unfolding clusterRefusal firstFailing
+    bounds-refused h = simp (members-fit s l m, sym f ∙ t, sym bounds-told ∙ h)
+
+    pub bounds-borne : b ≡ true → 0 ≡ clusterRefusal s u r
+    unfolding clusterRefusal firstFailing
+    bounds-borne h = simp (members-fit s l m, sym f ∙ t, sym bounds-told ∙ h)
 
 pub ruleset judging = (checks, members-none, members-many, members-fit)
 

@@ -1,9 +1,11 @@
 // Which clusters are accepted.
-use crate::totals::total;
 ghost use mathlib.Core.Path.{_≡_};
-ghost use Prim.Native.Nat.{_≤_};
+ghost use mathlib.Core.Bool.{_&&_};
+ghost use Prim.Native.Nat.{_+_, _*_, _%_, _≤_};
+ghost use lib.Dec.{leb};
 ghost use lib.ListN.{length};
-ghost use Rattle.shares.specs.Cluster.{isShare, sharesFit, boundsFit, clusterRefusal};
+ghost use Rattle.shares.specs.Shares.{lowTotalOf};
+ghost use Rattle.shares.specs.Cluster.{isShare, sharesFit, clusterRefusal};
 
 fn is_share(x: u32) -> bool
     ensures { λ r. ⌜ r ≡ isShare x ⌝ }
@@ -11,26 +13,40 @@ fn is_share(x: u32) -> bool
     (1 <= x) & (x <= 1_000_000)
 }
 
-fn shares_fit(shares: &[u32]) -> bool
-    ensures { λ r. ⌜ r ≡ sharesFit (now (shares .entry)) ⌝ }
+// A share's 20 lowest bits: the whole of an allowed one, and of any 64 no sum is too large.
+fn low_bits(x: u32) -> u32
+    ensures { λ r. ⌜ (r ≡ x % 1048576) × (r ≤ 1048575) ⌝ }
+{
+    x % 1_048_576
+}
+
+// What one pass tells of shares: whether all are allowed, and their total where they are.
+struct Weighed {
+    fit: bool,
+    total: u32,
+}
+
+fn weigh(shares: &[u32]) -> Weighed
+    requires { ⌜ length (now shares) ≤ 64 ⌝ }
+    ensures { λ w. ⌜ (w .fit ≡ sharesFit (now (shares .entry))) × (w .total ≡ lowTotalOf (now (shares .entry))) ⌝ }
 {
     let mut fit = true;
+    let mut total: u32 = 0;
     let mut i = 0;
     while i < shares.len() {
         fit = fit & is_share(shares[i]);
+        total += low_bits(shares[i]);
         i += 1;
     }
-    fit
+    Weighed { fit, total }
 }
 
 // u and r may be any 32-bit numbers, so their sum is taken in 64.
-fn bounds_fit(shares: &[u32], u: u32, r: u32) -> bool
-    requires { ⌜ length (now shares) ≤ 64 ⌝ }
-    ensures { λ b. ⌜ b ≡ boundsFit (now (shares .entry)) u r ⌝ }
+fn bounds_fit(d: u32, u: u32, r: u32) -> bool
+    ensures { λ b. ⌜ b ≡ (leb r u && leb (2 * u + r + 1) d) ⌝ }
 {
     let least = 2 * (u as u64) + (r as u64) + 1;
-    let d = total(shares);
-    (r <= u) & (least <= d)
+    (r <= u) & (least <= d as u64)
 }
 
 // The refusal that a cluster gets: 1, 2, 3 in this order, 0 for none.
@@ -43,10 +59,11 @@ pub fn cluster_refusal(shares: &[u32], u: u32, r: u32) -> u32
     if 64 < shares.len() {
         return 1;
     }
-    if !shares_fit(shares) {
+    let all = weigh(shares);
+    if !all.fit {
         return 2;
     }
-    if !bounds_fit(shares, u, r) {
+    if !bounds_fit(all.total, u, r) {
         return 3;
     }
     0

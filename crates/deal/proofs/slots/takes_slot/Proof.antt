@@ -1,14 +1,15 @@
--- The branch is the one of the definition.
-use Rattle.basics.proofs.BoolLaws.{branches}
+-- The test, as a number.
+use Rattle.basics.proofs.HowManyLaws.{one-le}
+use Rattle.hamilton.proofs.CountLaws.{as-number}
 use borrow.Author.Needs.{needs}
 use Rattle.deal.proofs.slots.takes_slot.Statement.{statement}
 use Rattle.deal.proofs.slots.takes_slot.Tie as tie
 
-returns : tie.Need-returns
-returns c = (search branches, search needs)
+cast-result : tie.Need-cast-result
+cast-result c = search needs
 
-returns-2 : tie.Need-returns-2
-returns-2 c = (search branches, search needs)
+returns : tie.Need-returns
+returns c = (search as-number, rw as-number (search one-le))
 
 pub takes-slot-spec : {M : Type 1} → statement M
-takes-slot-spec = tie.close (tie.spec returns returns-2)
+takes-slot-spec = tie.close (tie.spec cast-result returns)

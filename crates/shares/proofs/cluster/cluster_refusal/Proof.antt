@@ -1,6 +1,6 @@
 -- Each answer is that of the first check that fails.
 use Rattle.shares.specs.Cluster.{clusterRefusal}
-use Rattle.shares.proofs.ClusterLaws.{judging}
+use Rattle.shares.proofs.ClusterLaws.{judging, bounds-refused, bounds-borne}
 use borrow.Author.Needs.{needs}
 use Rattle.shares.proofs.cluster.cluster_refusal.Statement.{statement}
 use Rattle.shares.proofs.cluster.cluster_refusal.Tie as tie
@@ -13,8 +13,8 @@ returns-2 : tie.Need-returns-2
 unfolding clusterRefusal
 returns-2 c = search judging
 
-shares-fit-requires : tie.Need-shares-fit-requires
-shares-fit-requires c κs = search needs
+weigh-requires : tie.Need-weigh-requires
+weigh-requires c κs = search needs
 
 returns-3 : tie.Need-returns-3
 unfolding clusterRefusal
@@ -24,12 +24,10 @@ bounds-fit-requires : tie.Need-bounds-fit-requires
 bounds-fit-requires c κs = search needs
 
 returns-4 : tie.Need-returns-4
-unfolding clusterRefusal
-returns-4 c = search judging
+returns-4 c = search (bounds-refused, judging)
 
 returns-5 : tie.Need-returns-5
-unfolding clusterRefusal
-returns-5 c = search judging
+returns-5 c = search (bounds-borne, judging)
 
 pub cluster-refusal-spec : {M : Type 1} → statement M
 cluster-refusal-spec =
@@ -37,7 +35,7 @@ cluster-refusal-spec =
     (tie.spec
     returns
     returns-2
-    shares-fit-requires
+    weigh-requires
     returns-3
     bounds-fit-requires
     returns-4
