@@ -3,13 +3,13 @@ use mathlib.Core.Path.{_≡_, refl, ap, sym, _∙_}
 use mathlib.Core.Bool.{Bool, true, false, cond}
 use mathlib.Core.List.{List, _++_}
 use Prim.Native.Nat.{ℕ, zero, suc, _+_, _*_, _-_, _/_, _%_, _^_, _≤_, _<_}
-use native.Mathlib.Nat.{mul-le-mul-left, mul-le-mul-right}
+use native.Mathlib.Nat.{mul-le-mul-left}
 use native.Mathlib.Omega.{arith}
 use lib.Dec.{ltb}
 use lib.ListN.{length, getD, drop, set, List·getD-append}
 use lib.Seq.{drop-cons, drop-at, getD-at}
 use mir.Val.{Fits, boolByte}
-use mir.Syntax.{w32, w64}
+use mir.Syntax.{w32}
 use Rattle.basics.specs.Sums.{sumBelow, howMany, listBelow}
 use Rattle.basics.proofs.SumLaws.{sum-more, sum-grows, sum-part, length-list, list-turn, list-at, list-is}
 use Rattle.shares.specs.Shares.{totalOf}
@@ -18,10 +18,13 @@ use Rattle.basics.proofs.HowManyLaws.{one, many-cong}
 use Rattle.hamilton.proofs.RankLaws.{under, under-all}
 use Rattle.hamilton.proofs.QuotaLaws.{quotas-le, few-undealt, key, key-lt, keys-apart, count-by-key}
 
-pub product : (a b : ℕ) → Fits w32 a → Fits w32 b → Fits w64 (a * b)
-product a b f g =
-    let h : a * b ≤ a * (2 ^ 32 - 1) = mul-le-mul-left a (omega (arith, g .fits)) in
-    record { fits = omega (arith, f .fits) }
+pub product : (a b : ℕ) → a ≤ 1000000 → b ≤ 1024 → Fits w32 (a * b)
+product a b l m =
+    let h : a * b ≤ a * 1024 = mul-le-mul-left a m in
+    record { fits = omega arith }
+
+pub share-small : (s : List ℕ) (q i : ℕ) → Dealable s q → i < length s → getD s i 0 ≤ 1000000
+share-small s q i h l = h .small-share i l
 
 -- ---- sums and lists by index
 list-front : (f : ℕ → ℕ) (n i : ℕ) (z : List ℕ) → i < n → getD (listBelow n f ++ z) i 0 ≡ f i
@@ -41,17 +44,9 @@ quota-le s q h i l = omega (arith, sum-part (quotaOf s q) (length s) i l, quotas
 
 module _ (s : List ℕ) (q d i : ℕ) (h : Dealable s q) (e : d ≡ totalOf s) where
   module _ (x : ℕ) (f : x ≡ getD s i 0 * q) where
-    -- no share is above the total
-    pub product-small : i < length s → x ≤ d * 1024
-    unfolding totalOf
-    product-small l =
-        omega (
-          arith,
-          f,
-          e,
-          mul-le-mul-right q (sum-part (λ j. getD s j 0) (length s) i l),
-          mul-le-mul-left (sumBelow (length s) (λ j. getD s j 0)) (h .small-quantum),
-        )
+    pub quota-told : x / d ≡ quotaOf s q i
+    unfolding quotaOf
+    quota-told = rw (f, e) refl
 
     remainder-told : x % d ≡ remainderOf s q i
     unfolding remainderOf
@@ -60,17 +55,12 @@ module _ (s : List ℕ) (q d i : ℕ) (h : Dealable s q) (e : d ≡ totalOf s) w
     pub key-told : (v : ℕ) → v ≡ (d - x % d) * 64 + i → v ≡ key s q i
     key-told v k = k ∙ rw (remainder-told, e) refl
 
-    module _ (low : ℕ) (g : low ≡ x / d) where
-      pub quota-told : low ≡ quotaOf s q i
-      unfolding quotaOf
-      quota-told = rw (g, f, e) refl
+    module _ (rest : ℕ) (l : i < length s) (u : rest + sumBelow i (quotaOf s q) ≡ q) where
+      pub undealt-fits : x / d ≤ rest
+      undealt-fits = omega (arith, quotas-le s q h, sum-grows (quotaOf s q) (i + 1) (length s) (omega arith), sum-more (quotaOf s q) i, quota-told)
 
-      module _ (rest : ℕ) (l : i < length s) (u : rest + sumBelow i (quotaOf s q) ≡ q) where
-        pub undealt-fits : low ≤ rest
-        undealt-fits = omega (arith, quotas-le s q h, sum-grows (quotaOf s q) (i + 1) (length s) (omega arith), sum-more (quotaOf s q) i, quota-told)
-
-        pub undealt-turn : rest - low + sumBelow (i + 1) (quotaOf s q) ≡ q
-        undealt-turn = omega (arith, undealt-fits, sum-more (quotaOf s q) i, quota-told)
+      pub undealt-turn : rest - x / d + sumBelow (i + 1) (quotaOf s q) ≡ q
+      undealt-turn = omega (arith, undealt-fits, sum-more (quotaOf s q) i, quota-told)
 
 pub undealt-start : (s : List ℕ) (q : ℕ) → q + sumBelow 0 (quotaOf s q) ≡ q
 unfolding sumBelow

@@ -10,18 +10,21 @@ use borrow.Author.Tests.{leb-true, eq-eqb, ne-eqb}
 use Rattle.basics.specs.Checks.{_else_, firstFailing}
 use Rattle.basics.specs.Ranges.{isQuantum}
 use Rattle.basics.proofs.BoolLaws.{and-left, and-right}
-use Rattle.basics.proofs.CheckLaws.{checks-passed, checks-failed, checks-first, checks-later, first-passed, later-passed}
+use Rattle.basics.proofs.CheckLaws.{checks-passed, checks-failed, first-passed, later-passed}
 use Rattle.basics.proofs.SumLaws.{length-list}
-use Rattle.shares.specs.Cluster.{clusterChecks, clusterRefusal, Accepted}
-use Rattle.shares.proofs.ClusterLaws.{cluster-numbered, accepts, total-small}
+use Rattle.shares.specs.Shares.{totalOf}
+use Rattle.shares.specs.Cluster.{clusterChecks, clusterRefusal, clusterAnswer, Accepted}
+use Rattle.shares.specs.declared.cluster.ClusterAnswer.{ClusterAnswer}
+use Rattle.shares.proofs.ClusterLaws.{cluster-numbered, accepts, total-small, answer-refusal, answer-total}
 use Rattle.hamilton.specs.Hamilton.{countOf, countsOf, Dealable}
-use Rattle.hamilton.specs.Counts.{countsRefusal, countsOut}
+use Rattle.hamilton.specs.Counts.{laterChecks, laterRefusal, countsRefusal, countsOut}
 
 -- an accepted cluster and an allowed quantum can be dealt
 pub dealable : (s : List ℕ) (u r q : ℕ) → Accepted s u r → isQuantum q ≡ true → Dealable s q
 unfolding isQuantum
 dealable s u r q a b = record {
   few-members = a .few-members;
+  small-share = a .small-share;
   some-total = omega (arith, a .enough);
   small-total = total-small s u r a;
   some-quantum = leb-true 1 q (and-left (leb 1 q) (leb q 1024) b);
@@ -29,37 +32,50 @@ dealable s u r q a b = record {
 }
 
 -- ---- the call for counts
-module _ (s : List ℕ) (u r q room n : ℕ) (e : n ≡ clusterRefusal s u r) where
-  pub counts-cluster : (n ≡ 0 → ⊥) → n ≡ countsRefusal s u r q room
-  unfolding countsRefusal clusterRefusal
-  counts-cluster z = checks-failed (clusterChecks s u r) ((isQuantum q else 4) ∷ (leb (length s) room else 5) ∷ []) e z
+module _ (s : List ℕ) (u r q : ℕ) (o : List ℕ) (a : ClusterAnswer) (e : a ≡ clusterAnswer s u r) where
+  judged : clusterRefusal s u r ≡ a .refusal
+  judged = sym (answer-refusal s u r a e)
 
-  pub counts-judged : (m : ℕ) → n ≡ 0 → m ≡ firstFailing ((isQuantum q else 4) ∷ (leb (length s) room else 5) ∷ []) → m ≡ countsRefusal s u r q room
-  unfolding countsRefusal clusterRefusal
-  counts-judged m z f = checks-passed (clusterChecks s u r) ((isQuantum q else 4) ∷ (leb (length s) room else 5) ∷ []) (sym e ∙ z) f (cluster-numbered s u r)
-
-module _ (s : List ℕ) (u r q room n : ℕ) (e : n ≡ countsRefusal s u r q room) (z : n ≡ 0) where
-  later : firstFailing ((isQuantum q else 4) ∷ (leb (length s) room else 5) ∷ []) ≡ 0
-  unfolding countsRefusal
-  later = checks-later (clusterChecks s u r) ((isQuantum q else 4) ∷ (leb (length s) room else 5) ∷ []) (cluster-numbered s u r) (sym e ∙ z)
-
-  pub counts-dealable : Dealable s q
-  unfolding countsRefusal clusterRefusal
-  counts-dealable = dealable s u r q
-      (accepts s u r (checks-first (clusterChecks s u r) ((isQuantum q else 4) ∷ (leb (length s) room else 5) ∷ []) (cluster-numbered s u r) (sym e ∙ z)))
-      (first-passed (isQuantum q) 4 ((leb (length s) room else 5) ∷ []) (lit< tt) later)
-
-  pub counts-room : length s ≤ room
-  counts-room = leb-true (length s) room (first-passed (leb (length s) room) 5 [] (lit< tt) (later-passed (isQuantum q) 4 ((leb (length s) room else 5) ∷ []) (lit< tt) later))
-
-module _ (s : List ℕ) (u r q n : ℕ) (o : List ℕ) (e : n ≡ countsRefusal s u r q (length o)) where
-  pub out-kept : (n ≡ 0 → ⊥) → o ≡ countsOut s u r q o
+  kept : (n : ℕ) → n ≡ countsRefusal s u r q (length o) → (n ≡ 0 → ⊥) → o ≡ countsOut s u r q o
   unfolding countsOut
-  out-kept z = simp (← e, ne-eqb n 0 z)
+  kept n f z = simp (← f, ne-eqb n 0 z)
 
-  pub out-filled : (l : List ℕ) → n ≡ 0 → l ≡ countsOf s q ++ drop (length s) o → l ≡ countsOut s u r q o
-  unfolding countsOut
-  out-filled l z f = simp (← e, eq-eqb n 0 z) f
+  pub cluster-refused : (a .refusal ≡ 0 → ⊥) → a .refusal ≡ countsRefusal s u r q (length o)
+  unfolding countsRefusal clusterRefusal
+  cluster-refused z = checks-failed (clusterChecks s u r) (laterChecks q (length s) (length o)) (sym judged) z
+
+  pub cluster-kept : (a .refusal ≡ 0 → ⊥) → o ≡ countsOut s u r q o
+  cluster-kept z = kept (a .refusal) (cluster-refused z) z
+
+  module _ (y : a .refusal ≡ 0) where
+    pub total-told : a .total ≡ totalOf s
+    total-told = answer-total s u r a e y
+
+    module _ (n : ℕ) (f : n ≡ laterRefusal q (length s) (length o)) where
+      pub later-told : n ≡ countsRefusal s u r q (length o)
+      unfolding countsRefusal clusterRefusal laterRefusal
+      later-told = checks-passed (clusterChecks s u r) (laterChecks q (length s) (length o)) (judged ∙ y) f (cluster-numbered s u r)
+
+      pub later-kept : (n ≡ 0 → ⊥) → o ≡ countsOut s u r q o
+      later-kept z = kept n later-told z
+
+      module _ (z : n ≡ 0) where
+        pub counts-dealable : Dealable s q
+        unfolding laterRefusal
+        counts-dealable = dealable s u r q (accepts s u r (judged ∙ y)) (first-passed (isQuantum q) 4 ((leb (length s) (length o) else 5) ∷ []) (lit< tt) (sym f ∙ z))
+
+        pub counts-room : length s ≤ length o
+        unfolding laterRefusal
+        counts-room =
+            leb-true (length s) (length o)
+            (first-passed (leb (length s) (length o)) 5 [] (lit< tt) (later-passed (isQuantum q) 4 ((leb (length s) (length o) else 5) ∷ []) (lit< tt) (sym f ∙ z)))
+
+        pub counts-accepted : 0 ≡ countsRefusal s u r q (length o)
+        counts-accepted = sym z ∙ later-told
+
+        pub counts-filled : (l : List ℕ) → l ≡ countsOf s q ++ drop (length s) o → l ≡ countsOut s u r q o
+        unfolding countsOut
+        counts-filled l g = simp (← later-told, eq-eqb n 0 z) g
 
 -- one count for each member
 pub length-counts : (s : List ℕ) (q : ℕ) → length (countsOf s q) ≡ length s

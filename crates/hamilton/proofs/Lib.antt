@@ -2,7 +2,6 @@
 pub mod RankLaws
 pub mod QuotaLaws
 pub mod CountLaws
-pub mod InverseLaws
 pub mod JudgeLaws
 pub mod CountsAddUp
 pub mod Unique

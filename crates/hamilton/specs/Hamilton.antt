@@ -41,6 +41,7 @@ countsOf shares q = listBelow (length shares) (countOf shares q)
 -- what dealing asks of a cluster and a quantum; every accepted cluster has it with every allowed quantum
 pub record Dealable (shares : List ℕ) (q : ℕ) : Type 0 where
   pub few-members : length shares ≤ 64
+  pub small-share : (i : ℕ) → i < length shares → getD shares i 0 ≤ 1_000_000
   pub some-total : 0 < totalOf shares
   pub small-total : totalOf shares ≤ 64_000_000
   pub some-quantum : 1 ≤ q

@@ -10,7 +10,8 @@ ghost use lib.Dec.{ltb};
 ghost use lib.ListN.{length, getD, drop};
 ghost use Rattle.basics.specs.Sums.{listBelow};
 ghost use Rattle.hamilton.specs.Hamilton.{countsOf, Dealable};
-ghost use Rattle.hamilton.specs.Counts.{countsRefusal, countsOut};
+ghost use Rattle.hamilton.specs.Counts.{laterRefusal, countsRefusal, countsOut};
+ghost use Rattle.shares.specs.Shares.{totalOf};
 
 // A lower quota, and one more where the member's key is below the end.
 fn count(quota: u32, key: u32, end: u32) -> u32
@@ -33,6 +34,18 @@ fn add_leftovers(keys: &[u32; 64], n: usize, end: u32, out: &mut [u32])
     }
 }
 
+// Fills the output with the counts, one place for each member, the total share being d.
+fn fill_counts_of(shares: &[u32], d: u32, q: u32, out: &mut [u32])
+    requires { ⌜ Dealable (now shares) q ⌝ }
+    requires { ⌜ (d ≡ totalOf (now shares)) × (length (now shares) ≤ length (now out)) ⌝ }
+    ensures { λ _. ⌜ now (out .exit) ≡ countsOf (now (shares .entry)) q ++ drop (length (now (shares .entry))) (now (out .entry)) ⌝ }
+{
+    let mut keys = [0u32; 64];
+    let rest = fill_quotas(shares, q, d, &mut keys, out);
+    let end = threshold(&keys, shares.len(), rest, (d + 1) * 64);
+    add_leftovers(&keys, shares.len(), end, out);
+}
+
 // Fills the output with the counts, one place for each member.
 // inner: for a caller that has judged the cluster and asks for many slots of one deal.
 pub fn fill_counts(shares: &[u32], q: u32, out: &mut [u32])
@@ -41,24 +54,17 @@ pub fn fill_counts(shares: &[u32], q: u32, out: &mut [u32])
     ensures { λ _. ⌜ now (out .exit) ≡ countsOf (now (shares .entry)) q ++ drop (length (now (shares .entry))) (now (out .entry)) ⌝ }
 {
     let d = shares::total(shares);
-    let mut keys = [0u32; 64];
-    let rest = fill_quotas(shares, q, d, &mut keys, out);
-    let end = threshold(&keys, shares.len(), rest, ((d + 1) * 64) as u32);
-    add_leftovers(&keys, shares.len(), end, out);
+    fill_counts_of(shares, d as u32, q, out);
 }
 
-// The refusal of the call for counts, for an output of so many places.
-fn counts_refusal(shares: &[u32], u: u32, r: u32, q: u32, room: usize) -> u32
-    ensures { λ n. ⌜ n ≡ countsRefusal (now (shares .entry)) u r q room ⌝ }
+// What the call for counts may be refused with after its cluster: 4, 5, for so many members and places.
+fn later_refusal(q: u32, members: usize, room: usize) -> u32
+    ensures { λ n. ⌜ n ≡ laterRefusal q members room ⌝ }
 {
-    let n = shares::cluster_refusal(shares, u, r);
-    if n != 0 {
-        return n;
-    }
     if !basics::is_quantum(q) {
         return 4;
     }
-    if room < shares.len() {
+    if room < members {
         return 5;
     }
     0
@@ -68,10 +74,14 @@ fn counts_refusal(shares: &[u32], u: u32, r: u32, q: u32, room: usize) -> u32
 pub fn counts(shares: &[u32], u: u32, r: u32, q: u32, out: &mut [u32]) -> u32
     ensures { λ n. ⌜ (n ≡ countsRefusal (now (shares .entry)) u r q (length (now (out .entry)))) × (now (out .exit) ≡ countsOut (now (shares .entry)) u r q (now (out .entry))) ⌝ }
 {
-    let n = counts_refusal(shares, u, r, q, out.len());
+    let cluster = shares::judge_cluster(shares, u, r);
+    if cluster.refusal != 0 {
+        return cluster.refusal;
+    }
+    let n = later_refusal(q, shares.len(), out.len());
     if n != 0 {
         return n;
     }
-    fill_counts(shares, q, out);
+    fill_counts_of(shares, cluster.total, q, out);
     0
 }

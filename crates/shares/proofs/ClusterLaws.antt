@@ -7,26 +7,56 @@ use native.Mathlib.Nat.{mod-eq-of-lt}
 use native.Mathlib.Omega.{arith}
 use lib.Dec.{leb, lit<}
 use lib.ListN.{length, getD}
-use borrow.Author.Tests.{le-leb, lt-leb, leb-true}
+use borrow.Author.Needs.{needs}
+use borrow.Author.Tests.{le-leb, lt-leb, leb-true, ne-eqb, not-true, not-false}
 use Rattle.basics.specs.Checks.{firstFailing}
 use Rattle.basics.proofs.BoolLaws.{and-both, and-left, and-right, and-not-left, and-not-right}
 use Rattle.basics.proofs.SumLaws.{all-at, all-of, sum-cong, sum-bound}
-use Rattle.basics.proofs.CheckLaws.{first-passed, later-passed, Numbered, checks}
+use Rattle.basics.proofs.CheckLaws.{first-passed, later-passed, Numbered}
 use Rattle.shares.specs.Shares.{totalOf, lowTotalOf}
-use Rattle.shares.specs.Cluster.{membersFit, isShare, sharesFit, boundsFit, clusterChecks, clusterRefusal, Accepted}
+use Rattle.shares.specs.Cluster.{membersFit, isShare, sharesFit, boundsFit, clusterChecks, clusterRefusal, clusterAnswer, Accepted}
+use Rattle.shares.specs.declared.cluster.ClusterAnswer.{ClusterAnswer}
 
 -- ---- the checks, from what the code knows where it answers
-pub members-none : (s : List ℕ) → length s < 1 → membersFit s ≡ false
+members-none : (s : List ℕ) → length s < 1 → membersFit s ≡ false
 unfolding membersFit
 members-none s l = and-not-left (leb 1 (length s)) (leb (length s) 64) (lt-leb 1 (length s) l)
 
-pub members-many : (s : List ℕ) → 64 < length s → membersFit s ≡ false
+members-many : (s : List ℕ) → 64 < length s → membersFit s ≡ false
 unfolding membersFit
 members-many s l = and-not-right (leb 1 (length s)) (leb (length s) 64) (lt-leb (length s) 64 l)
 
-pub members-fit : (s : List ℕ) → 1 ≤ length s → length s ≤ 64 → membersFit s ≡ true
+members-fit : (s : List ℕ) → 1 ≤ length s → length s ≤ 64 → membersFit s ≡ true
 unfolding membersFit
 members-fit s l m = and-both (leb 1 (length s)) (leb (length s) 64) (le-leb 1 (length s) l) (le-leb (length s) 64 m)
+
+-- a refusal has no total
+module _ (s : List ℕ) (u r : ℕ) (a : ClusterAnswer) where
+  cluster-refused : (n : ℕ) → a ≡ record { refusal = n; total = 0 } → 0 < n → n ≡ clusterRefusal s u r → a ≡ clusterAnswer s u r
+  unfolding clusterAnswer
+  cluster-refused n e z f = e ∙ rw (← f, ne-eqb n 0 (λ y. omega arith)) refl
+
+  pub refused-none : a ≡ record { refusal = 1; total = 0 } → length s < 1 → a ≡ clusterAnswer s u r
+  unfolding clusterRefusal firstFailing
+  refused-none e l = cluster-refused 1 e (lit< tt) (simp (members-none s l))
+
+  pub refused-many : a ≡ record { refusal = 1; total = 0 } → 64 < length s → a ≡ clusterAnswer s u r
+  unfolding clusterRefusal firstFailing
+  refused-many e l = cluster-refused 1 e (lit< tt) (simp (members-many s l))
+
+  pub refused-share : (fit : Bool) → a ≡ record { refusal = 2; total = 0 } → 1 ≤ length s → length s ≤ 64 → fit ≡ sharesFit s → fit ≡ false → a ≡ clusterAnswer s u r
+  unfolding clusterRefusal firstFailing
+  refused-share fit e l m f z = cluster-refused 2 e (lit< tt) (simp (members-fit s l m, sym f ∙ z))
+
+-- the answer's parts
+module _ (s : List ℕ) (u r : ℕ) (a : ClusterAnswer) (e : a ≡ clusterAnswer s u r) where
+  pub answer-refusal : a .refusal ≡ clusterRefusal s u r
+  unfolding clusterAnswer
+  answer-refusal = rw e refl
+
+  pub answer-total : a .refusal ≡ 0 → a .total ≡ totalOf s
+  unfolding clusterAnswer
+  answer-total z = rw e (simp (sym answer-refusal ∙ z))
 
 -- an allowed share has no more than 20 bits
 low-bits : (x : ℕ) → isShare x ≡ true → x % 1048576 ≡ x
@@ -44,15 +74,19 @@ module _ (s : List ℕ) (u r d : ℕ) (fit : Bool) (f : fit ≡ sharesFit s) (t 
     unfolding boundsFit
     bounds-told = g ∙ rw total-told refl
 
-    pub bounds-refused : b ≡ false → 3 ≡ clusterRefusal s u r
+    pub refused-bounds : (a : ClusterAnswer) → a ≡ record { refusal = 3; total = 0 } → b ≡ false → a ≡ clusterAnswer s u r
     unfolding clusterRefusal firstFailing
-    bounds-refused h = simp (members-fit s l m, sym f ∙ t, sym bounds-told ∙ h)
+    refused-bounds a o h = cluster-refused s u r a 3 o (lit< tt) (simp (members-fit s l m, sym f ∙ t, sym bounds-told ∙ h))
 
-    pub bounds-borne : b ≡ true → 0 ≡ clusterRefusal s u r
+    bounds-borne : b ≡ true → 0 ≡ clusterRefusal s u r
     unfolding clusterRefusal firstFailing
     bounds-borne h = simp (members-fit s l m, sym f ∙ t, sym bounds-told ∙ h)
 
-pub ruleset judging = (checks, members-none, members-many, members-fit)
+    pub cluster-accepted : b ≡ true → _≡_ {A = ClusterAnswer} (record { refusal = 0; total = d }) (clusterAnswer s u r)
+    unfolding clusterAnswer
+    cluster-accepted h = rw (← bounds-borne h, total-told) refl
+
+pub ruleset judging = (not-true, not-false, refused-none, refused-many, refused-share, refused-bounds, cluster-accepted, needs)
 
 pub cluster-numbered : (s : List ℕ) (u r : ℕ) → Numbered (clusterChecks s u r)
 cluster-numbered s u r = (lit< tt, (lit< tt, (lit< tt, tt)))

@@ -1,12 +1,13 @@
 -- Which clusters are accepted: a lent list of shares, member 0 first, and the bounds u and r. Assumes nothing.
-use mathlib.Core.Bool.{Bool, _&&_}
+use mathlib.Core.Bool.{Bool, cond, _&&_}
 use mathlib.Core.List.{List, [], _∷_}
 use Prim.Native.Nat.{ℕ, _+_, _*_, _≤_, _<_}
-use lib.Dec.{leb}
+use lib.Dec.{leb, eqb}
 use lib.ListN.{length, getD}
 use Rattle.basics.specs.Sums.{allBelow}
 use Rattle.basics.specs.Checks.{Check, _else_, firstFailing}
 use Rattle.shares.specs.Shares.{totalOf}
+use Rattle.shares.specs.declared.cluster.ClusterAnswer.{ClusterAnswer}
 
 -- 1 to 64 members
 unfoldable pub membersFit : List ℕ → Bool
@@ -34,6 +35,10 @@ clusterChecks shares u r =
 -- the refusal that a cluster gets, 0 for an accepted one
 unfoldable pub clusterRefusal : List ℕ → ℕ → ℕ → ℕ
 clusterRefusal shares u r = firstFailing (clusterChecks shares u r)
+
+-- and with 0 its total share
+unfoldable pub clusterAnswer : List ℕ → ℕ → ℕ → ClusterAnswer
+clusterAnswer shares u r = record { refusal = clusterRefusal shares u r; total = cond (eqb (clusterRefusal shares u r) 0) (totalOf shares) 0 }
 
 -- what is known of an accepted cluster
 pub record Accepted (shares : List ℕ) (u r : ℕ) : Type 0 where

@@ -5,7 +5,7 @@ ghost use Prim.Native.Nat.{_+_, _*_, _%_, _≤_};
 ghost use lib.Dec.{leb};
 ghost use lib.ListN.{length};
 ghost use Rattle.shares.specs.Shares.{lowTotalOf};
-ghost use Rattle.shares.specs.Cluster.{isShare, sharesFit, clusterRefusal};
+ghost use Rattle.shares.specs.Cluster.{isShare, sharesFit, clusterRefusal, clusterAnswer};
 
 fn is_share(x: u32) -> bool
     ensures { λ r. ⌜ r ≡ isShare x ⌝ }
@@ -49,22 +49,45 @@ fn bounds_fit(d: u32, u: u32, r: u32) -> bool
     (r <= u) & (least <= d as u64)
 }
 
-// The refusal that a cluster gets: 1, 2, 3 in this order, 0 for none.
-pub fn cluster_refusal(shares: &[u32], u: u32, r: u32) -> u32
-    ensures { λ n. ⌜ n ≡ clusterRefusal (now (shares .entry)) u r ⌝ }
+// A refusal and 0, or 0 and the total share.
+pub struct ClusterAnswer {
+    pub refusal: u32,
+    pub total: u32,
+}
+
+fn refused(refusal: u32) -> ClusterAnswer
+    ensures { λ a. ⌜ a ≡ record { refusal = refusal; total = 0 } ⌝ }
+{
+    ClusterAnswer { refusal, total: 0 }
+}
+
+// The refusal that a cluster gets: 1, 2, 3 in this order, 0 for none; and with none its total, which judging finds anyway.
+pub fn judge_cluster(shares: &[u32], u: u32, r: u32) -> ClusterAnswer
+    ensures { λ a. ⌜ a ≡ clusterAnswer (now (shares .entry)) u r ⌝ }
 {
     if shares.len() < 1 {
-        return 1;
+        return refused(1);
     }
     if 64 < shares.len() {
-        return 1;
+        return refused(1);
     }
     let all = weigh(shares);
     if !all.fit {
-        return 2;
+        return refused(2);
     }
     if !bounds_fit(all.total, u, r) {
-        return 3;
+        return refused(3);
     }
-    0
+    ClusterAnswer {
+        refusal: 0,
+        total: all.total,
+    }
+}
+
+// The refusal alone.
+pub fn cluster_refusal(shares: &[u32], u: u32, r: u32) -> u32
+    ensures { λ n. ⌜ n ≡ clusterRefusal (now (shares .entry)) u r ⌝ }
+{
+    let answer = judge_cluster(shares, u, r);
+    answer.refusal
 }

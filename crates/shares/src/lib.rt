@@ -3,7 +3,9 @@ mod cluster;
 mod points;
 mod totals;
 
+pub use cluster::ClusterAnswer;
 pub use cluster::cluster_refusal;
+pub use cluster::judge_cluster;
 pub use points::is_point;
 pub use points::point;
 pub use totals::marked_share;

@@ -1,5 +1,5 @@
 -- The invariant: quotas and keys stand before place i, what was there from it on, and `rest` and the quotas before place i are the quantum.
-use Prim.Native.Nat.{_≤_, _-_, _+_, _/_}
+use Prim.Native.Nat.{_≤_, _-_, _+_}
 use mathlib.Core.Path.{_≡_}
 use mathlib.Core.List.{_++_}
 use lib.ListN.{length, drop, length-set}
@@ -7,28 +7,24 @@ use Rattle.basics.specs.Sums.{sumBelow, listBelow}
 use Rattle.basics.proofs.SumLaws.{list-start}
 use Rattle.hamilton.specs.Hamilton.{quotaOf}
 use Rattle.hamilton.proofs.QuotaLaws.{key}
-use Rattle.hamilton.proofs.CountLaws.{list-next, list-done, product-small, quota-told, key-told, undealt-start, undealt-fits, undealt-turn, undealt-done}
+use Rattle.hamilton.proofs.CountLaws.{list-next, list-done, share-small, quota-told, key-told, undealt-start, undealt-fits, undealt-turn, undealt-done}
 use borrow.Author.Needs.{needs}
 use Rattle.hamilton.proofs.quotas.fill_quotas.Statement.{statement}
 use Rattle.hamilton.proofs.quotas.fill_quotas.Tie as tie
 
 abbrev Inv-loop : tie.InvT-loop
-Inv-loop shares q d keys₀ out₀ inverse rest₀ i₀ keys out rest i = (i ≤ length shares)
+Inv-loop shares q d keys₀ out₀ rest₀ i₀ keys out rest i = (i ≤ length shares)
     × (rest + sumBelow i (quotaOf shares q) ≡ q)
     × (length out ≡ length out₀)
     × (out ≡ listBelow i (quotaOf shares q) ++ drop i out₀)
     × (length keys ≡ length keys₀)
     × (keys ≡ listBelow i (key shares q) ++ drop i keys₀)
-    × (inverse ≡ 9007199254740992 / d)
 
 abbrev μ-loop : tie.MeasureT-loop
-μ-loop shares q d keys₀ out₀ inverse rest₀ i₀ keys out rest i = length shares - i
-
-div-inverse : tie.Need-div-inverse Inv-loop μ-loop
-div-inverse c = search needs
+μ-loop shares q d keys₀ out₀ rest₀ i₀ keys out rest i = length shares - i
 
 loop-holds : tie.Need-loop-holds Inv-loop μ-loop
-loop-holds c = (search needs, search undealt-start, search needs, search list-start, search needs, search list-start, search needs)
+loop-holds c = (search needs, search undealt-start, search needs, search list-start, search needs, search list-start)
 
 mul-times : tie.Need-mul-times Inv-loop μ-loop
 mul-times c = search needs
@@ -37,10 +33,10 @@ shared-slice-read-times : tie.Need-shared-slice-read-times Inv-loop μ-loop
 shared-slice-read-times c = search needs
 
 times-requires : tie.Need-times-requires Inv-loop μ-loop
-times-requires c κs = search needs
+times-requires c κs = (search share-small, search needs)
 
-divided-requires : tie.Need-divided-requires Inv-loop μ-loop
-divided-requires c κs = (search needs, search needs, search product-small, search needs)
+div-low : tie.Need-div-low Inv-loop μ-loop
+div-low c = search needs
 
 mul-out : tie.Need-mul-out Inv-loop μ-loop
 mul-out c = search needs
@@ -67,7 +63,7 @@ loop-less : tie.Need-loop-less Inv-loop μ-loop
 loop-less c = search needs
 
 loop-again : tie.Need-loop-again Inv-loop μ-loop
-loop-again c = (search needs, search undealt-turn, simp length-set (search needs), search (list-next, quota-told), simp length-set (search needs), search (list-next, key-told), search needs)
+loop-again c = (search needs, search undealt-turn, simp length-set (search needs), search (list-next, quota-told), simp length-set (search needs), search (list-next, key-told))
 
 same-length : tie.Need-same-length Inv-loop μ-loop
 same-length c = search needs
@@ -84,12 +80,11 @@ fill-quotas-spec =
     (tie.spec
     Inv-loop
     μ-loop
-    div-inverse
     loop-holds
     mul-times
     shared-slice-read-times
     times-requires
-    divided-requires
+    div-low
     mul-out
     slice-write-out
     key-requires

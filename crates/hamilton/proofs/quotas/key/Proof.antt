@@ -1,30 +1,27 @@
--- What the quotient leaves is the remainder, and that is below what it is divided by.
-use Rattle.hamilton.proofs.InverseLaws.{back-fits, back-within, left-small, left-told}
+-- A remainder is below what it is divided by.
+use native.Mathlib.Nat.{mod-lt}
+use native.Mathlib.Omega.{arith}
 use borrow.Author.Needs.{needs}
 use Rattle.hamilton.proofs.quotas.key.Statement.{statement}
 use Rattle.hamilton.proofs.quotas.key.Tie as tie
 
-mul-left : tie.Need-mul-left
-mul-left c = search (back-fits, needs)
-
-sub-left : tie.Need-sub-left
-sub-left c = search back-within
+rem-result : tie.Need-rem-result
+rem-result c = search needs
 
 sub-result : tie.Need-sub-result
-sub-result c = search left-small
+sub-result c = omega (arith, mod-lt (c .args .product) {m = c .args .d} (search needs))
 
 mul-result : tie.Need-mul-result
-mul-result c = search (left-small, needs)
+mul-result c = search needs
 
 add-result : tie.Need-add-result
-add-result c = search (left-small, needs)
+add-result c = search needs
 
 cast-result : tie.Need-cast-result
-cast-result c = search (left-small, needs)
+cast-result c = search needs
 
 returns : tie.Need-returns
-returns c = search left-told
+returns c = search needs
 
 pub key-spec : {M : Type 1} → statement M
-key-spec =
-    tie.close (tie.spec mul-left sub-left sub-result mul-result add-result cast-result returns)
+key-spec = tie.close (tie.spec rem-result sub-result mul-result cast-result add-result returns)

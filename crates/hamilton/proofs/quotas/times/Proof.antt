@@ -1,4 +1,4 @@
--- A product of two 32-bit numbers fits 64 bits.
+-- A product of an allowed share and an allowed quantum fits 32 bits.
 use Rattle.hamilton.proofs.CountLaws.{product}
 use borrow.Author.Needs.{needs}
 use Rattle.hamilton.proofs.quotas.times.Statement.{statement}
