@@ -3,9 +3,8 @@ use mathlib.Core.Path.{_≡_, ap, sym, _∙_}
 use mathlib.Core.List.{List, _++_, append-nil}
 use Prim.Native.Nat.{ℕ, _+_, _≤_, _<_}
 use native.Mathlib.Omega.{arith}
-use lib.ListN.{length, drop, set, getD, drop-of-length-le, List·getD-eq-default}
+use lib.ListN.{length, drop, set, drop-of-length-le}
 use Rattle.basics.specs.Sums.{listBelow}
-use lib.Seq.{drop-at}
 use Rattle.basics.proofs.SumLaws.{length-list, list-turn}
 
 module _ {A : Type 0} (f : ℕ → A) where
@@ -17,15 +16,7 @@ module _ {A : Type 0} (f : ℕ → A) where
       let z : i ≡ 64 = omega arith in
       e ∙ ap (λ (t : List A). listBelow i f ++ t) (drop-of-length-le o {i = i} (omega arith)) ∙ append-nil (listBelow i f) ∙ ap (λ (j : ℕ). listBelow j f) z
 
-  -- what is left of the column is what stands behind the filled places
-  pub fill-left : (i : ℕ) (l o : List A) → l ≡ listBelow i f ++ drop i o → l ≡ listBelow i f ++ drop i l
-  fill-left i l o e = e ∙ ap (λ (t : List A). listBelow i f ++ t) (sym (ap (drop i) e ∙ drop-at (listBelow i f) (drop i o) i (length-list f i)))
-
 -- one more of n places at most
 pub fill-next : (f : ℕ → ℕ) (i n : ℕ) {v : ℕ} {l : List ℕ} (o : List ℕ) → l ≡ listBelow i f ++ drop i o → i < n → n ≤ 64 → length l ≡ 64 → length o ≡ 64 → v ≡ f i
     → set l i v ≡ listBelow (i + 1) f ++ drop (i + 1) o
 fill-next f i n o e h k a b q = fill-turn f i o e (omega arith) a b q
-
--- a place past a list's end
-pub past-end : (l : List ℕ) (i : ℕ) → length l ≤ i → 0 ≡ getD l i 0
-past-end l i h = sym (List·getD-eq-default l 0 h)

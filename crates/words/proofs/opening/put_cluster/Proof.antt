@@ -1,5 +1,5 @@
 -- Three words and a column, one behind the other.
-use Rattle.words.proofs.PutLaws.{cluster-put}
+use Rattle.words.proofs.PutLaws.{cluster-put, zeros-shares}
 use borrow.Author.Needs.{needs}
 use Rattle.words.proofs.opening.put_cluster.Statement.{statement}
 use Rattle.words.proofs.opening.put_cluster.Tie as tie
@@ -26,7 +26,7 @@ part-put-shares-end : tie.Need-part-put-shares-end
 part-put-shares-end c = search needs
 
 put-shares-requires : tie.Need-put-shares-requires
-put-shares-requires c κs = search needs
+put-shares-requires c κs = (search needs, search needs, search zeros-shares)
 
 same-length : tie.Need-same-length
 same-length c = search needs

@@ -1,8 +1,11 @@
--- Four parts, one behind the other.
-use Rattle.words.proofs.PutLaws.{opened-put}
+-- Zeros, and three parts put into them.
+use Rattle.words.proofs.PutLaws.{opened-put, zeros-first, zeros-second}
 use borrow.Author.Needs.{needs}
 use Rattle.words.proofs.opening.put_parts.Statement.{statement}
 use Rattle.words.proofs.opening.put_parts.Tie as tie
+
+put-zeros-in-requires : tie.Need-put-zeros-in-requires
+put-zeros-in-requires c κs = search needs
 
 sub-put-cluster : tie.Need-sub-put-cluster
 sub-put-cluster c = search needs
@@ -14,7 +17,7 @@ part-put-cluster-end : tie.Need-part-put-cluster-end
 part-put-cluster-end c = search needs
 
 put-cluster-requires : tie.Need-put-cluster-requires
-put-cluster-requires c κs = search needs
+put-cluster-requires c κs = (search needs, search needs, search zeros-first)
 
 sub-put-cluster-2 : tie.Need-sub-put-cluster-2
 sub-put-cluster-2 c = search needs
@@ -26,7 +29,7 @@ part-put-cluster-end-2 : tie.Need-part-put-cluster-end-2
 part-put-cluster-end-2 c = search needs
 
 put-cluster-requires-2 : tie.Need-put-cluster-requires-2
-put-cluster-requires-2 c κs = search needs
+put-cluster-requires-2 c κs = (search needs, search needs, search zeros-second)
 
 sub-put-three : tie.Need-sub-put-three
 sub-put-three c = search needs
@@ -40,18 +43,6 @@ part-put-three-end c = search needs
 put-three-requires : tie.Need-put-three-requires
 put-three-requires c κs = search needs
 
-sub-put-zeros : tie.Need-sub-put-zeros
-sub-put-zeros c = search needs
-
-part-put-zeros-start : tie.Need-part-put-zeros-start
-part-put-zeros-start c = search needs
-
-part-put-zeros-end : tie.Need-part-put-zeros-end
-part-put-zeros-end c = search needs
-
-put-zeros-requires : tie.Need-put-zeros-requires
-put-zeros-requires c κs = search needs
-
 same-length : tie.Need-same-length
 same-length c = search needs
 
@@ -62,6 +53,7 @@ pub put-parts-spec : {M : Type 1} → statement M
 put-parts-spec =
     tie.close
     (tie.spec
+    put-zeros-in-requires
     sub-put-cluster
     part-put-cluster-start
     part-put-cluster-end
@@ -74,9 +66,5 @@ put-parts-spec =
     part-put-three-start
     part-put-three-end
     put-three-requires
-    sub-put-zeros
-    part-put-zeros-start
-    part-put-zeros-end
-    put-zeros-requires
     same-length
     returns)
