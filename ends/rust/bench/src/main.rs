@@ -3,6 +3,7 @@
 
 mod calls;
 mod cases;
+mod doors;
 mod pure_cases;
 mod stack;
 mod states;

@@ -31,7 +31,7 @@ fn counts(members: usize) -> Make {
         let Cluster { shares, u, r } = sending(members);
         let mut out = [0; 64];
         repeated(move || {
-            let refusal = (calls.counts)(black_box(&shares), u, r, QUANTUM, &mut out);
+            let refusal = calls.counts(black_box(&shares), u, r, QUANTUM, &mut out);
             u64::from(refusal + out[members - 1])
         })
     })
@@ -43,7 +43,7 @@ fn first_pair(members: usize) -> Make {
         repeated(move || {
             let mut answer = [0; 2];
             let (ss, rs) = (black_box(&s.shares), black_box(&r.shares));
-            let refusal = (calls.first_pair)(ss, s.u, s.r, rs, r.u, r.r, QUANTUM, MESSAGE, &mut answer);
+            let refusal = calls.first_pair(ss, s.u, s.r, rs, r.u, r.r, QUANTUM, MESSAGE, &mut answer);
             u64::from(refusal) + 64 * answer[0] + answer[1]
         })
     })
@@ -55,7 +55,7 @@ fn resend_pair(members: usize, n: u32) -> Make {
         repeated(move || {
             let mut answer = [0; 3];
             let (ss, rs) = (black_box(&s.shares), black_box(&r.shares));
-            let refusal = (calls.resend_pair)(ss, s.u, s.r, rs, r.u, r.r, QUANTUM, MESSAGE, n, &mut answer);
+            let refusal = calls.resend_pair(ss, s.u, s.r, rs, r.u, r.r, QUANTUM, MESSAGE, n, &mut answer);
             u64::from(refusal) + 64 * answer[0] + answer[1] + 4096 * answer[2]
         })
     })
@@ -65,7 +65,7 @@ fn plan(members: usize) -> Make {
     Box::new(move |calls| {
         let input = plan_input(&sending(members), &receiving(members));
         let mut out = [0; PLAN_BYTES];
-        repeated(move || (calls.plan)(black_box(&input), &mut out) as u64)
+        repeated(move || calls.plan(black_box(&input), &mut out) as u64)
     })
 }
 
@@ -100,7 +100,7 @@ pub fn member_cases() -> Vec<Case> {
 fn fresh() -> Make {
     Box::new(|calls| {
         on_holdings([1_000, 2], |holdings| {
-            (calls.fresh)(holdings);
+            calls.fresh(holdings);
             holdings[0]
         })
     })
@@ -109,7 +109,7 @@ fn fresh() -> Make {
 fn arrive(before: [u64; 2], k: u64) -> Make {
     Box::new(move |calls| {
         on_holdings(before, move |holdings| {
-            let refusal = (calls.arrive)(holdings, black_box(k));
+            let refusal = calls.arrive(holdings, black_box(k));
             u64::from(refusal) + holdings[0]
         })
     })
@@ -119,7 +119,7 @@ fn receiver_report() -> Make {
     Box::new(|calls| {
         repeated(|| {
             let mut answer = [0; 2];
-            let refusal = (calls.receiver_report)(black_box(&[1_000, 2]), &mut answer);
+            let refusal = calls.receiver_report(black_box(&[1_000, 2]), &mut answer);
             u64::from(refusal) + answer[0]
         })
     })
@@ -131,7 +131,7 @@ fn read() -> Make {
         [bytes[0], bytes[1], bytes[8], bytes[16]] = [1, 5, 7, 2];
         repeated(move || {
             let mut answer = [0; 4];
-            let refusal = (calls.read)(black_box(&bytes), &mut answer);
+            let refusal = calls.read(black_box(&bytes), &mut answer);
             u64::from(refusal) + answer[2]
         })
     })
@@ -141,7 +141,7 @@ fn write() -> Make {
     Box::new(|calls| {
         let mut out = [0; RECORD_BYTES];
         repeated(move || {
-            let refusal = (calls.write)(1, 5, black_box(7), 2, &mut out);
+            let refusal = calls.write(1, 5, black_box(7), 2, &mut out);
             u64::from(refusal) + u64::from(out[8])
         })
     })

@@ -45,7 +45,7 @@ pub fn receiving(members: usize) -> Cluster {
 pub fn empty(members: usize) -> Words {
     let (s, r) = (sending(members), receiving(members));
     let mut words = [0; WINDOW_WORDS];
-    let refusal = (TUNED.open)(&s.shares, s.u, s.r, &r.shares, r.u, r.r, QUANTUM, &mut words);
+    let refusal = TUNED.open(&s.shares, s.u, s.r, &r.shares, r.u, r.r, QUANTUM, &mut words);
     assert_eq!(refusal, 0, "the clusters are accepted");
     words
 }

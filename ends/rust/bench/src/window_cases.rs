@@ -49,18 +49,18 @@ fn open(members: usize) -> Make {
         let mut words = [0; WINDOW_WORDS];
         repeated(move || {
             let (ss, rs) = (black_box(&s.shares), black_box(&r.shares));
-            let refusal = (calls.open)(ss, s.u, s.r, rs, r.u, r.r, QUANTUM, &mut words);
+            let refusal = calls.open(ss, s.u, s.r, rs, r.u, r.r, QUANTUM, &mut words);
             u64::from(refusal) + words[0]
         })
     })
 }
 
 fn judge(words: Words) -> Make {
-    Box::new(move |calls| repeated(move || u64::from((calls.judge)(black_box(&words)))))
+    Box::new(move |calls| repeated(move || u64::from(calls.judge(black_box(&words)))))
 }
 
 fn send(words: Words, k: u64) -> Make {
-    Box::new(move |calls| on_windows(words, move |words| u64::from((calls.send)(words, k))))
+    Box::new(move |calls| on_windows(words, move |words| u64::from(calls.send(words, k))))
 }
 
 fn report(words: Words, (member, number, mask): (u32, u64, u64)) -> Make {
@@ -68,7 +68,7 @@ fn report(words: Words, (member, number, mask): (u32, u64, u64)) -> Make {
         let mut out = [0; REPORT_BYTES];
         on_windows(words, move |words| {
             let mut answer = [0];
-            let refusal = (calls.report)(words, member, number, mask, &mut out, &mut answer);
+            let refusal = calls.report(words, member, number, mask, &mut out, &mut answer);
             1000 * u64::from(refusal) + answer[0]
         })
     })

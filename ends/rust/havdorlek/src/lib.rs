@@ -22,7 +22,8 @@
 //! # Ok::<(), havdorlek::Refusal>(())
 //! ```
 //!
-//! [`raw`] has the same calls as the archive gives them, with numbers for refusals and the state in lent words.
+//! [`raw`] has the same calls as the archive gives them, with numbers for refusals and the state in lent words; [`sys`] has them
+//! as C sees them.
 #![deny(missing_docs)]
 #![deny(unsafe_op_in_unsafe_fn)]
 
@@ -33,7 +34,7 @@ mod plan;
 pub mod raw;
 mod record;
 mod refusal;
-mod sys;
+pub mod sys;
 mod verdict;
 mod window;
 
