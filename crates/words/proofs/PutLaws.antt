@@ -4,8 +4,8 @@ use mathlib.Core.List.{List, [], _∷_, _++_, append-nil, append-assoc}
 use Prim.Native.Nat.{ℕ, zero, suc, _+_, _-_, _≤_, _<_}
 use native.Mathlib.Nat.{zero-add, add-zero, add-suc}
 use native.Mathlib.Omega.{arith}
-use lib.ListN.{length, take, drop, set, getD, replicate, drop-of-length-le, length-append, List·getD-eq-default}
-use lib.Seq.{sets, sets-eq, drop-at}
+use lib.ListN.{length, take, drop, take-append-drop, set, getD, replicate, drop-of-length-le, length-append, List·getD-eq-default}
+use lib.Seq.{sets, sets-eq, drop-at, length-take-le}
 use borrow.Rule.Slice.PartMut.{midOf, putMid}
 use Rattle.basics.proofs.PartLaws.{put-next}
 use Rattle.basics.specs.Sums.{listBelow}
@@ -60,13 +60,16 @@ shares-put shares u r =
     list-is (λ i. getD (shares ++ replicate (64 - length shares) 0) i 0) 0 64 (listBelow 64 (λ i. getD shares i 0)) (length-list (λ i. getD shares i 0) 64)
     (λ i l. list-at (λ j. getD shares j 0) 0 64 i l ∙ sym (padded shares (64 - length shares) i))
 
-pub cluster-put : (shares : List ℕ) (u r : ℕ) (s y z : List ℕ) → length s ≡ 67 → y ≡ length shares ∷ u ∷ r ∷ [] → z ≡ listBelow 64 (λ i. getD shares i 0)
-    → putMid 3 64 (putMid 0 3 s y) z ≡ clusterWords (clusterFrom shares u r)
+pub cluster-put : (shares : List ℕ) (u r : ℕ) (s y z : List ℕ) → length s ≡ 67 → z ≡ listBelow 64 (λ i. getD shares i 0) → y ≡ length shares ∷ u ∷ r ∷ []
+    → putMid 0 3 (putMid 3 64 s z) y ≡ clusterWords (clusterFrom shares u r)
 unfolding clusterWords
-cluster-put shares u r s y z l d e =
+cluster-put shares u r s y z l e d =
     let ly : length y ≡ 3 = ap length d in
     let lz : length z ≡ 64 = ap length e ∙ length-list (λ i. getD shares i 0) 64 in
-    more y z s (putMid 0 3 s y) 3 64 (put-next [] y s 0 3 refl ly) ly lz ∙ full (y ++ z) s 67 l ∙ rw (d, e, shares-put shares u r)
+    let lt : length (take 3 s) ≡ 3 = length-take-le 3 s (omega (arith, l)) in
+    let one : putMid 3 64 s z ≡ (take 3 s ++ z) ++ drop 67 s = more (take 3 s) z s s 3 64 (sym (take-append-drop 3 s)) lt lz in
+    let rest : drop 3 (putMid 3 64 s z) ≡ z = ap (drop 3) (one ∙ full (take 3 s ++ z) s 67 l) ∙ drop-at (take 3 s) z 3 lt in
+    put-next [] y (putMid 3 64 s z) 0 3 refl ly ∙ rw (rest, d, e, shares-put shares u r)
 
 pub length-cluster : (c : Cluster) → length (clusterWords c) ≡ 67
 unfolding clusterWords
@@ -138,9 +141,9 @@ pub zeros-second : (c : Cluster) (l y : List ℕ) → l ≡ zeros 457 → y ≡ 
 unfolding zeros listBelow
 zeros-second c l y e f = behind l y 67 67 (ap length f ∙ length-cluster c) ∙ rw e refl
 
-pub zeros-shares : (a b c : ℕ) (l y : List ℕ) → l ≡ zeros 67 → y ≡ a ∷ b ∷ c ∷ [] → midOf 3 64 (putMid 0 3 l y) ≡ zeros 64
+pub zeros-shares : (l : List ℕ) → l ≡ zeros 67 → midOf 3 64 l ≡ zeros 64
 unfolding zeros listBelow
-zeros-shares a b c l y e f = behind l y 3 64 (ap length f) ∙ rw e refl
+zeros-shares l e = rw e refl
 
 pub opened-put : (sending receiving : Cluster) (q : ℕ) (s a b c : List ℕ) → s ≡ zeros 457 → a ≡ clusterWords sending → b ≡ clusterWords receiving → c ≡ q ∷ 0 ∷ 0 ∷ []
     → putMid 134 3 (putMid 67 67 (putMid 0 67 s a) b) c ≡ wordsOf (windowFrom sending receiving q)

@@ -51,8 +51,8 @@ fn put_cluster(shares: &[u32], u: u32, r: u32, out: &mut [u64])
     requires { ⌜ (length (now shares) ≤ 64) × (length (now out) ≡ 67) × (now out ≡ zeros 67) ⌝ }
     ensures { λ _. ⌜ now (out .exit) ≡ clusterWords (clusterFrom (now (shares .entry)) u r) ⌝ }
 {
-    put_three(shares.len() as u64, u as u64, r as u64, &mut out[0..3]);
     put_shares(shares, &mut out[3..67]);
+    put_three(shares.len() as u64, u as u64, r as u64, &mut out[0..3]);
 }
 
 // Zeros first, so that only what is not zero is put then.
