@@ -34,6 +34,10 @@ pub and-not-right : (a b : Bool) → b ≡ false → (a && b) ≡ false
 and-not-right true b q = q
 and-not-right false b q = refl
 
+pub and-true : (b : Bool) → (b && true) ≡ b
+and-true true = refl
+and-true false = refl
+
 pub and-left : (a b : Bool) → (a && b) ≡ true → a ≡ true
 and-left true b p = refl
 and-left false b p = p

@@ -1,21 +1,23 @@
 -- Numbers in bytes: bounds, both ways back, and the turns of the loops that read and write them. Assumes nothing.
 use mathlib.Core.Path.{_≡_, refl, ap, sym, _∙_}
-use mathlib.Core.Bool.{true, false, _&&_}
+use mathlib.Core.Bool.{Bool, true, false, _&&_}
 use mathlib.Core.List.{List, [], _∷_, _++_, append-nil}
 use Prim.Native.Nat.{ℕ, zero, suc, _+_, _*_, _^_, _/_, _%_, _-_, _<_, _≤_, zero-le}
 use native.Mathlib.Numerals.{add-one}
 use native.Mathlib.Nat.{pow-suc, le-refl, div-div-eq-div-mul, div-one, mul-comm}
 use native.Mathlib.Omega.{arith}
+use lib.Bits.{bitOr}
 use lib.Dec.{lit<, eqb, ltb, eqb·suc-zero}
 use lib.ListN.{length, getD, take, drop, set, replicate, drop-of-length-le, length-drop, length-take, List·getD-eq-default}
 use lib.Seq.{drop-cons, getD-drop, getD-take, set-at, append-snoc}
-use borrow.Author.Tests.{eq-eqb, ne-eqb, eqb-true, ltb-true, ltb-false}
+use borrow.Author.Tests.{eqb-true, ltb-true, ltb-false}
 use borrow.Rule.Slice.PartMut.{mid-len}
 use mir.Val.{Fits}
 use mir.Facts.{fits-lit}
 use mir.Syntax.{w8, w64}
 use Rattle.basics.specs.Bytes.{leOf, leBytes, allZero, part}
-use Rattle.basics.proofs.BoolLaws.{either, no-both, and-left, and-right}
+use Rattle.basics.proofs.BoolLaws.{either, no-both, and-true, and-left, and-right}
+use Rattle.basics.proofs.BitLaws.{or-zero}
 
 -- each element is a byte
 abbrev pub Bytes : List ℕ → Type 0
@@ -129,14 +131,16 @@ zero-end : (s : List ℕ) (i : ℕ) → length s ≤ i → allZero (drop i s) �
 unfolding allZero
 zero-end s i h = rw (drop-of-length-le s)
 
-pub zero-turn : (s : List ℕ) (i : ℕ) → i < length s → allZero (drop i s) ≡ allZero s → getD s i 0 ≡ 0 → allZero (drop (i + 1) s) ≡ allZero s
-zero-turn s i h a e = sym (zero-at s i h ∙ simp (eq-eqb _ _ e)) ∙ a
+-- no bit of the bytes before place i, gathered in z, and none of those from place i on
+pub zero-turn : (s : List ℕ) (i z : ℕ) → i < length s → (eqb z 0 && allZero (drop i s)) ≡ allZero s → (eqb (bitOr z (getD s i 0)) 0 && allZero (drop (i + 1) s)) ≡ allZero s
+zero-turn s i z h a = rw (or-zero z (getD s i 0), and-and (eqb z 0) (eqb (getD s i 0) 0) (allZero (drop (i + 1) s)), sym (zero-at s i h)) a
+  where
+    and-and : (a b c : Bool) → ((a && b) && c) ≡ (a && (b && c))
+    and-and true b c = refl
+    and-and false b c = refl
 
-pub zero-stop : (s : List ℕ) (i : ℕ) → i < length s → allZero (drop i s) ≡ allZero s → (getD s i 0 ≡ 0 → ⊥) → false ≡ allZero s
-zero-stop s i h a e = sym (zero-at s i h ∙ simp (ne-eqb _ _ e)) ∙ a
-
-pub zero-done : (s : List ℕ) (i : ℕ) → length s ≤ i → allZero (drop i s) ≡ allZero s → true ≡ allZero s
-zero-done s i h a = sym (zero-end s i h) ∙ a
+pub zero-done : (s : List ℕ) (i z : ℕ) → length s ≤ i → (eqb z 0 && allZero (drop i s)) ≡ allZero s → eqb z 0 ≡ allZero s
+zero-done s i z h a = sym (and-true (eqb z 0)) ∙ sym (ap (λ (b : Bool). eqb z 0 && b) (zero-end s i h)) ∙ a
 
 pub zeros : (l : List ℕ) → allZero l ≡ true → l ≡ replicate (length l) 0
 unfolding allZero

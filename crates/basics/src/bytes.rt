@@ -38,15 +38,15 @@ pub fn put_number(out: &mut [u8], x: u64)
     }
 }
 
+// Whether every byte is zero: the bits of all are gathered, and no byte is branched on.
 pub fn all_zero(part: &[u8]) -> bool
     ensures { λ r. ⌜ r ≡ allZero (now (part .entry)) ⌝ }
 {
+    let mut bits: u8 = 0;
     let mut i = 0;
     while i < part.len() {
-        if part[i] != 0 {
-            return false;
-        }
+        bits = bits | part[i];
         i += 1;
     }
-    true
+    bits == 0
 }

@@ -10,12 +10,12 @@ use lib.Pow.{pow-pos, shl-shr, shr-le}
 use borrow.Author.Tests.{lt-ltb, le-ltb}
 use mir.Val.{Fits}
 use mir.Syntax.{w64}
-use Rattle.basics.proofs.BoolLaws.{or-right}
+use Rattle.basics.proofs.BoolLaws.{and-true, or-right}
 use Rattle.marks.specs.Masks.{isMarked, firstOf}
 use Rattle.marks.specs.Held.{holdsOf, heldAfter}
 use Rattle.marks.proofs.MaskLaws.{marked-past, marked-beyond, same-marks}
 use Rattle.marks.proofs.SetLaws.{marked-and, marked-or, marked-set, set-lt}
-use Rattle.marks.proofs.FirstLaws.{first-marked, and-true, first-at, first-lt}
+use Rattle.marks.proofs.FirstLaws.{first-marked, first-at, first-lt}
 use Rattle.marks.proofs.HeldLaws.{holds-low, holds-high}
 
 -- what is cut off lies past the bit

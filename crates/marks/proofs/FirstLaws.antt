@@ -1,6 +1,6 @@
 -- The first bits of a mask, and those from one place up to another. Assumes nothing.
-use mathlib.Core.Path.{_≡_, refl, ap, ap₂, sym, _∙_}
-use mathlib.Core.Bool.{Bool, true, false, not, _&&_}
+use mathlib.Core.Path.{_≡_, ap, ap₂, sym, _∙_}
+use mathlib.Core.Bool.{Bool, true, not, _&&_}
 use Prim.Native.Nat.{ℕ, _-_, _*_, _%_, _^_, _≤_, _<_, min}
 use native.Mathlib.Decide.{decLt}
 use native.Mathlib.Nat.{lt-of-le-of-lt}
@@ -19,10 +19,6 @@ pub first-marked : (n j : ℕ) → j < n → isMarked (2 ^ n - 1) j ≡ true
 first-marked n j l =
     let z : 2 ^ n - 1 ≡ 2 ^ n - 1 - 0 = omega arith in
     ap (λ (x : ℕ). isMarked x j) z ∙ marked-not n 0 j (pow-pos n) l ∙ ap not (marked-none j)
-
-pub and-true : (b : Bool) → (b && true) ≡ b
-and-true true = refl
-and-true false = refl
 
 -- ---- the first d
 pub first-some : (d : ℕ) → d < 64 → (1 * 2 ^ d) % 18446744073709551616 - 1 ≡ firstOf d

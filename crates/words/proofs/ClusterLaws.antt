@@ -13,14 +13,14 @@ use borrow.Author.Needs.{needs}
 use borrow.Author.Tests.{le-leb, lt-leb, leb-true, lt-ltb, le-ltb, ltb-true, eq-eqb, eqb-true}
 use Rattle.basics.specs.Sums.{allBelow, sumBelow, listBelow}
 use Rattle.basics.specs.Checks.{firstFailing}
-use Rattle.basics.proofs.BoolLaws.{and-right, and-not-left, and-not-right, or-left, or-right, same-test, either, no-both}
+use Rattle.basics.proofs.BitLaws.{or-below}
+use Rattle.basics.proofs.BoolLaws.{and-true, and-right, and-not-left, and-not-right, or-left, or-right, same-test, either, no-both}
 use Rattle.basics.proofs.SumLaws.{all-at, all-of, all-cong, all-done, sum-done, sum-cong, list-at, length-list}
 use Rattle.shares.specs.Shares.{totalOf}
 use Rattle.shares.specs.Cluster.{isShare, membersFit, sharesFit, boundsFit, clusterRefusal}
 use Rattle.downstream.specs.Formed.{placesZero, clusterKept}
 use Rattle.words.specs.Taken.{wordAt, noneAbove, columnAt, clusterAt}
 use Rattle.words.proofs.FitLaws.{none-at}
-use Rattle.words.proofs.StraightLaws.{or-below}
 
 -- ---- one share
 high-zero : (x : ℕ) → eqb (x / 2 ^ 63) 0 ≡ ltb x 9223372036854775808
@@ -116,10 +116,6 @@ refusal-told s u r = go (membersFit s) (sharesFit s) (boundsFit s u r)
     go true true false = refl
     go true false c = refl
     go false b c = refl
-
-and-true : (b : Bool) → (b && true) ≡ b
-and-true true = refl
-and-true false = refl
 
 module _ (ws : List ℕ) (at : ℕ) where
   abbrev n : ℕ
