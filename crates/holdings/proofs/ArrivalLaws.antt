@@ -2,17 +2,22 @@
 use mathlib.Core.Path.{_≡_, refl, sym, _∙_}
 use mathlib.Core.Bool.{Bool, true, false, not, true≢false}
 use mathlib.Core.List.{List, [], _∷_}
-use Prim.Native.Nat.{ℕ, _+_, _-_, _/_, _^_, _≤_, _<_}
+use Prim.Native.Nat.{ℕ, _+_, _-_, _*_, _/_, _%_, _^_, _≤_, _<_}
 use native.Mathlib.Omega.{arith}
 use lib.Dec.{leb}
+use lib.Bits.{bitOr}
+use mir.Val.{Fits}
+use mir.Syntax.{w64}
 use borrow.Author.Needs.{needs}
 use borrow.Author.Tests.{eq-eqb, ne-eqb, le-leb, lt-leb, leb-true}
 use Rattle.basics.specs.Checks.{Check, _else_, firstFailing}
 use Rattle.basics.specs.Ranges.{isMessage, messageLimit}
-use Rattle.basics.proofs.BoolLaws.{and-right}
+use Rattle.basics.proofs.BoolLaws.{and-true, and-right}
 use Rattle.basics.proofs.CheckLaws.{first-passed, later-passed}
 use Rattle.marks.specs.Masks.{isMarked, markOf, runOf, reachOf}
 use Rattle.marks.specs.Held.{noneAbove, highestOf}
+use Rattle.marks.proofs.MaskLaws.{mark-in}
+use Rattle.marks.proofs.RunLaws.{reach-told}
 use Rattle.holdings.specs.State.{wellFormed}
 use Rattle.holdings.specs.Arrival.{arrivalRefusal, risenOf, markedOf, takenOf, arrivalOf}
 use Rattle.holdings.specs.declared.state.Holdings.{Holdings}
@@ -24,6 +29,11 @@ unfolding wellFormed noneAbove highestOf
 formed-low h w =
     let top : ℕ = h .number + reachOf (h .mask) in
     omega (arith, leb-true top messageLimit (and-right (not (isMarked (h .mask) 0)) (leb top messageLimit) w))
+
+-- 64 or more below the limit, whether bit 0 is clear is all there is to ask
+pub formed-far : (h : Holdings) (z : Bool) → Fits w64 (h .mask) → h .number ≤ 999999999936 → z ≡ isMarked (h .mask) 0 → not z ≡ wellFormed h
+unfolding wellFormed noneAbove highestOf
+formed-far h z f l e = simp (← e, le-leb (h .number + reachOf (h .mask)) messageLimit (omega (arith, reach-told (h .mask) f))) (sym (and-true (not z)))
 
 -- as the code has it, where it adds a number d
 pub formed-room : (h : Holdings) (d : ℕ) (g : Bool) → g ≡ wellFormed h → not g ≡ false → d ≤ 1000 → h .number + d < 18446744073709551616
@@ -51,6 +61,9 @@ accepts h k e =
 pub accepted-low : (h : Holdings) (k n : ℕ) → n ≡ arrivalRefusal h k → n ≡ 0 → h .number ≤ 1000000000000
 accepted-low h k n e z = formed-low h (accepts h k (sym e ∙ z) .formed)
 
+pub accepted-near : (h : Holdings) (k n : ℕ) → n ≡ arrivalRefusal h k → n ≡ 0 → k ≤ h .number + 64
+accepted-near h k n e z = accepts h k (sym e ∙ z) .near
+
 -- ---- c rises over the run of marks
 pub rises : (c m d x y : ℕ) → d ≡ runOf m → x ≡ d → y ≡ m / 2 ^ x → _≡_ {A = Holdings} (record { number = c + x; mask = y }) (risenOf c m)
 unfolding risenOf
@@ -61,19 +74,18 @@ pub taken-held : (h : Holdings) (k : ℕ) → k ≤ h .number → h ≡ takenOf 
 unfolding takenOf
 taken-held h k l = simp (le-leb k (h .number) l)
 
-module _ (h : Holdings) (k x : ℕ) (above : h .number < k) (e : x ≡ markOf (h .mask) (k - h .number - 1)) where
-  same-bit : markOf (h .mask) (k - (h .number + 1)) ≡ x
-  same-bit =
-      let b : k - (h .number + 1) ≡ k - h .number - 1 = omega arith in
-      rw b (sym e)
+pub taken-next : (h r : Holdings) (k x : ℕ) → k ≡ h .number + 1 → x ≡ markOf (h .mask) 0 → r ≡ risenOf (h .number) x → r ≡ takenOf h k
+unfolding takenOf markedOf
+taken-next h r k x n e t =
+    let first : k - (h .number + 1) ≡ 0 = omega arith in
+    simp (lt-leb k (h .number) (omega arith), eq-eqb k (h .number + 1) n, first, ← e) t
 
-  pub taken-next : (r : Holdings) → k ≡ h .number + 1 → r ≡ risenOf (h .number) x → r ≡ takenOf h k
-  unfolding takenOf markedOf
-  taken-next r n t = simp (lt-leb k (h .number) above, eq-eqb k (h .number + 1) n, same-bit) t
-
-  pub taken-later : (k ≡ h .number + 1 → ⊥) → _≡_ {A = Holdings} (record { number = h .number; mask = x }) (takenOf h k)
-  unfolding takenOf markedOf
-  taken-later n = simp (lt-leb k (h .number) above, ne-eqb k (h .number + 1) n, same-bit)
+pub taken-later : (h : Holdings) (k : ℕ) → h .number < k → k ≤ h .number + 64 → (k ≡ h .number + 1 → ⊥) →
+    _≡_ {A = Holdings} (record { number = h .number; mask = bitOr (h .mask) ((1 * 2 ^ (k - h .number - 1)) % 18446744073709551616) }) (takenOf h k)
+unfolding takenOf markedOf
+taken-later h k above near n =
+    let b : k - (h .number + 1) ≡ k - h .number - 1 = omega arith in
+    rw (mark-in (h .mask) (k - h .number - 1) (omega arith)) (simp (lt-leb k (h .number) above, ne-eqb k (h .number + 1) n, b))
 
 -- ---- the whole answer
 module _ (h : Holdings) (k n : ℕ) (e : n ≡ arrivalRefusal h k) where
@@ -87,4 +99,4 @@ module _ (h : Holdings) (k n : ℕ) (e : n ≡ arrivalRefusal h k) where
 
 pub ruleset taking = (taken-held, taken-next, taken-later, needs)
 
-pub ruleset arriving = (arrival-refused, arrival-taken, accepted-low, needs)
+pub ruleset arriving = (arrival-refused, arrival-taken, accepted-low, accepted-near, needs)

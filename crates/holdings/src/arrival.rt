@@ -7,7 +7,7 @@ use marks::mark;
 use marks::past;
 use marks::run;
 ghost use mathlib.Core.Path.{_≡_};
-ghost use Prim.Native.Nat.{_≤_};
+ghost use Prim.Native.Nat.{_+_, _≤_};
 ghost use Rattle.holdings.specs.Arrival.{risenOf, takenOf, arrivalRefusal, arrivalOf};
 
 // The refusal's number, or 0, and the holdings after the arrival.
@@ -44,22 +44,22 @@ fn risen(number: u64, mask: u64) -> Holdings
     }
 }
 
-// The holdings with message k taken in.
+// The holdings with message k taken in. The next message is asked for first, since it mostly is that one. A later one has a bit of
+// its own, so near it is.
 fn taken(h: Holdings, k: u64) -> Holdings
-    requires { ⌜ h .number ≤ 1000000000000 ⌝ }
+    requires { ⌜ (h .number ≤ 1000000000000) × (k ≤ h .number + 64) ⌝ }
     ensures { λ r. ⌜ r ≡ takenOf h k ⌝ }
 {
     let c = h.number;
+    if k == c + 1 {
+        return risen(c, mark(h.mask, 0));
+    }
     if k <= c {
         return h;
     }
-    let marked = mark(h.mask, k - c - 1);
-    if k == c + 1 {
-        return risen(c, marked);
-    }
     Holdings {
         number: c,
-        mask: marked,
+        mask: h.mask | (1u64 << (k - c - 1)),
     }
 }
 
