@@ -1,17 +1,17 @@
 -- What writing answers in each case, and the parts of a record put one after another. Assumes nothing.
-use mathlib.Core.Path.{_≡_, refl, ap, _∙_}
-use mathlib.Core.Bool.{Bool, true, false}
+use mathlib.Core.Path.{_≡_, refl, ap, sym, _∙_}
+use mathlib.Core.Bool.{Bool, true, false, not, _&&_, _||_}
 use mathlib.Core.List.{List, [], _∷_, _++_}
 use Prim.Native.Nat.{ℕ, _+_, _*_, _/_, _%_, _<_, _≤_}
 use native.Mathlib.Omega.{arith}
-use lib.Dec.{leb}
+use lib.Dec.{leb, eqb}
 use lib.ListN.{length, drop}
 use borrow.Author.Needs.{needs}
-use borrow.Author.Tests.{le-leb, lt-leb, leb-true, not-true, not-false}
+use borrow.Author.Tests.{le-leb, lt-leb, leb-true, ne-eqb, not-true, not-false}
 use borrow.Rule.Slice.PartMut.{midOf, putMid}
 use Rattle.basics.specs.Bytes.{leBytes}
 use Rattle.basics.specs.Checks.{Check, _else_, firstFailing}
-use Rattle.basics.proofs.BoolLaws.{told}
+use Rattle.basics.proofs.BoolLaws.{told, and-true}
 use Rattle.basics.proofs.CheckLaws.{first-passed, later-passed}
 use Rattle.basics.proofs.PartLaws.{put-next, fill-next}
 use Rattle.records.specs.ByKind.{fieldsKept}
@@ -40,6 +40,20 @@ put-record k m n w s h a b l e f g =
     let two : putMid 8 8 (putMid 0 8 s h) a ≡ (h ++ leBytes 8 n) ++ drop 16 s = rw one (fill-next h s a 8 8 n lh (omega arith) (rw one at f)) in
     rw (two, e) (fill-next (headOf k m ++ leBytes 8 n) s b 16 8 w refl l (rw (two, e) at g))
 
+-- ---- the fields that a kind may have
+module _ (k m n w : ℕ) where
+  pub fields-unused : k ≡ 0 → ((eqb m 0 && eqb n 0) && eqb w 0) ≡ fieldsKept k m n w
+  unfolding fieldsKept
+  fields-unused e = rw e (sym (and-true ((eqb m 0 && eqb n 0) && eqb w 0)))
+
+  pub fields-used : (k ≡ 0 → ⊥) → (not (eqb k 2) || eqb w 0) ≡ fieldsKept k m n w
+  unfolding fieldsKept
+  fields-used e = simp (ne-eqb k 0 e)
+
+  pub fields-any : k ≡ 1 → fieldsKept k m n w ≡ true
+  unfolding fieldsKept
+  fields-any e = rw e refl
+
 -- ---- the answer, and the output then
 module _ (k m n w : ℕ) (o : List ℕ) where
   pub write-kind : 2 < k → wroteNumber (Denied WrongKind) ≡ writeRefusal k m n w (length o)
@@ -50,13 +64,13 @@ module _ (k m n w : ℕ) (o : List ℕ) where
   unfolding wroteNumber numberOf writeRefusal firstFailing
   write-zero g h e f = simp (le-leb k 2 h, ← e, f)
 
-  pub write-short : (g : Bool) → k ≤ 2 → g ≡ fieldsKept k m n w → g ≡ true → length o < 24 → wroteNumber (Denied ShortOutput) ≡ writeRefusal k m n w (length o)
+  pub write-short : k ≤ 2 → fieldsKept k m n w ≡ true → length o < 24 → wroteNumber (Denied ShortOutput) ≡ writeRefusal k m n w (length o)
   unfolding wroteNumber numberOf writeRefusal firstFailing
-  write-short g h e f l = simp (le-leb k 2 h, ← e, f, lt-leb 24 (length o) l)
+  write-short h f l = simp (le-leb k 2 h, f, lt-leb 24 (length o) l)
 
-  pub write-done : (g : Bool) → k ≤ 2 → g ≡ fieldsKept k m n w → g ≡ true → 24 ≤ length o → wroteNumber Written ≡ writeRefusal k m n w (length o)
+  pub write-done : k ≤ 2 → fieldsKept k m n w ≡ true → 24 ≤ length o → wroteNumber Written ≡ writeRefusal k m n w (length o)
   unfolding wroteNumber writeRefusal firstFailing
-  write-done g h e f l = simp (le-leb k 2 h, ← e, f, le-leb 24 (length o) l)
+  write-done h f l = simp (le-leb k 2 h, f, le-leb 24 (length o) l)
 
   kept : (x : Refusal) → wroteNumber (Denied x) ≡ writeRefusal k m n w (length o) → o ≡ writtenOf k m n w o
   unfolding wroteNumber numberOf writtenOf
@@ -71,14 +85,14 @@ module _ (k m n w : ℕ) (o : List ℕ) where
   pub kept-zero : (g : Bool) → k ≤ 2 → g ≡ fieldsKept k m n w → g ≡ false → o ≡ writtenOf k m n w o
   kept-zero g h e f = kept NotZero (write-zero g h e f)
 
-  pub kept-short : (g : Bool) → k ≤ 2 → g ≡ fieldsKept k m n w → g ≡ true → length o < 24 → o ≡ writtenOf k m n w o
-  kept-short g h e f l = kept ShortOutput (write-short g h e f l)
+  pub kept-short : k ≤ 2 → fieldsKept k m n w ≡ true → length o < 24 → o ≡ writtenOf k m n w o
+  kept-short h f l = kept ShortOutput (write-short h f l)
 
-  pub put-done : (p : List ℕ) (g : Bool) → k ≤ 2 → g ≡ fieldsKept k m n w → g ≡ true → 24 ≤ length o → p ≡ bytesOf k m n w ++ drop 24 o → p ≡ writtenOf k m n w o
+  pub put-done : (p : List ℕ) → k ≤ 2 → fieldsKept k m n w ≡ true → 24 ≤ length o → p ≡ bytesOf k m n w ++ drop 24 o → p ≡ writtenOf k m n w o
   unfolding wroteNumber writtenOf
-  put-done p g h e f l q = simp (← write-done g h e f l) q
+  put-done p h f l q = simp (← write-done h f l) q
 
-pub ruleset writes = (write-kind, write-zero, write-short, write-done, kept-kind, kept-zero, kept-short, put-done, told, not-true, not-false, needs)
+pub ruleset writes = (fields-any, write-kind, write-zero, write-short, write-done, kept-kind, kept-zero, kept-short, put-done, told, not-true, not-false, needs)
 
 -- ---- what the answer 0 says, of the kind and of the fields
 module _ (k m n w room : ℕ) where

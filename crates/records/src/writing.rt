@@ -3,6 +3,7 @@ use crate::Refusal;
 use crate::WriteAnswer;
 use basics::put_number;
 ghost use mathlib.Core.Path.{_≡_};
+ghost use mathlib.Core.Bool.{true};
 ghost use mathlib.Core.List.{_++_};
 ghost use Prim.Native.Nat.{_≤_};
 ghost use lib.ListN.{length, drop};
@@ -10,16 +11,27 @@ ghost use Rattle.records.specs.Answers.{wroteNumber};
 ghost use Rattle.records.specs.ByKind.{fieldsKept};
 ghost use Rattle.records.specs.Writing.{headOf, bytesOf, writeRefusal, writtenOf};
 
-// Writes the record with these fields, or says why not and changes nothing.
+// Writes the record with these fields, or says why not and changes nothing. A report is asked for first, since it may have any fields.
 pub fn write(kind: u8, member: u8, number: u64, mask: u64, out: &mut [u8]) -> WriteAnswer
     ensures { λ r. ⌜ (wroteNumber r ≡ writeRefusal kind member number mask (length (now (out .entry)))) × (now (out .exit) ≡ writtenOf kind member number mask (now (out .entry))) ⌝ }
 {
+    if kind == 1 {
+        return write_kept(kind, member, number, mask, out);
+    }
     if 2 < kind {
         return WriteAnswer::Denied(Refusal::WrongKind);
     }
     if !fields_kept(kind, member, number, mask) {
         return WriteAnswer::Denied(Refusal::NotZero);
     }
+    write_kept(kind, member, number, mask, out)
+}
+
+// Writes a record whose kind and fields may be written, if there is room.
+fn write_kept(kind: u8, member: u8, number: u64, mask: u64, out: &mut [u8]) -> WriteAnswer
+    requires { ⌜ (kind ≤ 2) × (fieldsKept kind member number mask ≡ true) ⌝ }
+    ensures { λ r. ⌜ (wroteNumber r ≡ writeRefusal kind member number mask (length (now (out .entry)))) × (now (out .exit) ≡ writtenOf kind member number mask (now (out .entry))) ⌝ }
+{
     if out.len() < 24 {
         return WriteAnswer::Denied(Refusal::ShortOutput);
     }
@@ -31,8 +43,10 @@ pub fn write(kind: u8, member: u8, number: u64, mask: u64, out: &mut [u8]) -> Wr
 fn fields_kept(kind: u8, member: u8, number: u64, mask: u64) -> bool
     ensures { λ r. ⌜ r ≡ fieldsKept kind member number mask ⌝ }
 {
-    let unused = (member == 0) & (number == 0) & (mask == 0);
-    ((kind != 0) | unused) & ((kind != 2) | (mask == 0))
+    if kind == 0 {
+        return (member == 0) & (number == 0) & (mask == 0);
+    }
+    (kind != 2) | (mask == 0)
 }
 
 // The first 8 bytes: kind, member and six zeros, as one number.
