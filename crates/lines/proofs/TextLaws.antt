@@ -1,18 +1,16 @@
 -- Decimal digits and text put into an output: lengths, and one text behind another. Assumes nothing.
-use mathlib.Core.Path.{_≡_, refl, ap, ap₂, sym, _∙_}
+use mathlib.Core.Path.{_≡_, ap, ap₂, sym, _∙_}
 use mathlib.Core.List.{List, [], _∷_, _++_, append-assoc}
-use Prim.Native.Nat.{ℕ, zero, suc, _+_, _/_, _%_, _^_, _<_, _≤_}
+use Prim.Native.Nat.{ℕ, zero, suc, _+_, _/_, _^_, _<_, _≤_}
 use native.Mathlib.Nat.{pow-suc}
 use native.Mathlib.Numerals.{add-one}
 use native.Mathlib.Omega.{arith}
 use lib.Dec.{ltb}
 use lib.ListN.{length, take, drop, set, getD, length-append}
 use lib.Seq.{drop-cons, set-at, set-split, length-take-le, take-at, drop-append-add, drop-drop, take-all, paste, paste-zero, paste-suc}
-use mir.Val.{Fits}
-use mir.Syntax.{w64}
-use borrow.Author.Tests.{lt-ltb, le-ltb}
+use borrow.Author.Tests.{lt-ltb}
 use Rattle.basics.proofs.BoolLaws.{either}
-use Rattle.lines.specs.Text.{digitsIn, digitsOf, put}
+use Rattle.lines.specs.Text.{digitsIn, put}
 
 -- ---- digits
 -- a number below 10 ^ n has at most n digits, and 0 has one
@@ -32,29 +30,9 @@ digits-le (suc m) x = either _ (ltb x 10)
     (λ e. simp e (omega arith))
     (λ e. simp (e, length-append) (omega (arith, digits-le m (x / 10))))
 
--- more room than digits changes nothing
-enough : (n x : ℕ) → x < 10 ^ suc n → digitsIn (suc (suc n)) x ≡ digitsIn (suc n) x
-unfolding digitsIn
-enough zero x h = simp (lt-ltb x 10 h)
-enough (suc n) x h = either _ (ltb x 10)
-    (λ e. simp e)
-    (λ e. simp e (ap (λ (l : List ℕ). l ++ ((48 + x % 10) ∷ [])) (enough n (x / 10) (omega (arith, pow-suc 10 (suc n))))))
-
-digits-one : (x : ℕ) → x < 10 → digitsOf x ≡ (48 + x) ∷ []
-unfolding digitsOf digitsIn
-digits-one x h = simp (lt-ltb x 10 h)
-
-one-more : (n x : ℕ) → 10 ≤ x → digitsIn (suc n) x ≡ digitsIn n (x / 10) ++ ((48 + x % 10) ∷ [])
-unfolding digitsIn
-one-more n x h = simp (le-ltb x 10 h)
-
-digits-more : (x : ℕ) → Fits w64 x → 10 ≤ x → digitsOf x ≡ digitsOf (x / 10) ++ ((48 + x % 10) ∷ [])
-unfolding digitsOf
-digits-more x f h = one-more 19 x h ∙ ap (λ (l : List ℕ). l ++ ((48 + x % 10) ∷ [])) (sym (enough 18 (x / 10) (omega (arith, f .fits))))
-
 -- ---- text in an output
 -- one byte
-put-one : (at : ℕ) (o : List ℕ) (v : ℕ) → at < length o → set o at v ≡ put at (v ∷ []) o
+pub put-one : (at : ℕ) (o : List ℕ) (v : ℕ) → at < length o → set o at v ≡ put at (v ∷ []) o
 unfolding put
 put-one at o v h = set-split o at v h ∙ rw add-one (sym (append-assoc (take at o) (v ∷ []) (drop (suc at) o)))
 
@@ -95,35 +73,3 @@ unfolding put
 bytes-done at i bs o l e a b =
     let z : i ≡ length bs = omega arith in
     e ∙ ap (λ (k : ℕ). paste o at bs k) z ∙ ap (λ (t : List ℕ). take at o ++ t ++ drop (at + length bs) o) (take-all (length bs) bs (omega arith))
-
--- ---- the two ways through `put_number`
-module _ (x at : ℕ) (o : List ℕ) (r : at + length (digitsOf x) ≤ length o) where
-  module _ (h : x < 10) where
-    pub small-room : at < length o
-    small-room = omega (arith, ap length (digits-one x h))
-
-    pub small-end : at + 1 ≡ at + length (digitsOf x)
-    small-end = rw (digits-one x h) refl
-
-    pub small-put : set o at (48 + x) ≡ put at (digitsOf x) o
-    small-put = rw (digits-one x h) (put-one at o (48 + x) small-room)
-
-  module _ (f : Fits w64 x) (h : 10 ≤ x) where
-    longer : length (digitsOf x) ≡ length (digitsOf (x / 10)) + 1
-    longer = ap length (digits-more x f h) ∙ length-append (digitsOf (x / 10)) ((48 + x % 10) ∷ [])
-
-    pub large-fits-in : at + length (digitsOf (x / 10)) ≤ length o
-    large-fits-in = omega (arith, longer)
-
-    module _ (n : ℕ) (p : List ℕ) (e : n ≡ at + length (digitsOf (x / 10))) (w : p ≡ put at (digitsOf (x / 10)) o) where
-      pub large-room : n < length o
-      large-room = omega (arith, longer)
-
-      pub large-end : n + 1 ≡ at + length (digitsOf x)
-      large-end = omega (arith, longer)
-
-      pub large-put : set p n (48 + x % 10) ≡ put at (digitsOf x) o
-      large-put = rw (w, e, digits-more x f h) (put-more at (digitsOf (x / 10)) o (48 + x % 10) (omega (arith, longer)))
-
-      pub large-fits : length o < 2 ^ 64 → Fits w64 (n + 1)
-      large-fits b = record { fits = omega (arith, large-room) }

@@ -14,6 +14,13 @@ digitsIn (suc n) x = cond (ltb x 10) ((48 + x) ∷ []) (digitsIn n (x / 10) ++ (
 unfoldable pub digitsOf : ℕ → List ℕ
 digitsOf x = digitsIn 20 x
 
+-- a number below 100 in two digits, and one below 10,000 in four
+unfoldable pub pairOf : ℕ → List ℕ
+pairOf x = (48 + x / 10) ∷ (48 + x % 10) ∷ []
+
+unfoldable pub fourOf : ℕ → List ℕ
+fourOf x = pairOf (x / 100) ++ pairOf (x % 100)
+
 -- a number and the byte that ends it
 unfoldable pub fieldOf : ℕ → ℕ → List ℕ
 fieldOf x e = digitsOf x ++ (e ∷ [])

@@ -1,4 +1,5 @@
 // The plan's lines as text: a refusal, the header with the first copy, and the resends.
+mod digits;
 mod lines;
 mod text;
 

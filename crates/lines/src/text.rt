@@ -1,8 +1,9 @@
 // Text, written into a lent output from a place on. Each function says where its text ends.
+use crate::digits::put_number;
 ghost use mathlib.Core.Path.{_≡_};
 ghost use Prim.Native.Nat.{_+_, _≤_};
 ghost use lib.ListN.{length};
-ghost use Rattle.lines.specs.Text.{digitsOf, fieldOf, lineOf, put};
+ghost use Rattle.lines.specs.Text.{fieldOf, lineOf, put};
 
 // The bytes as they are.
 // inner: for a caller that has seen to it that there is room.
@@ -16,20 +17,6 @@ pub fn put_bytes(bytes: &[u8], out: &mut [u8], at: usize) -> usize
         i += 1;
     }
     at + i
-}
-
-// The digits of x, the highest first.
-fn put_number(x: u64, out: &mut [u8], at: usize) -> usize
-    requires { ⌜ at + length (digitsOf x) ≤ length (now out) ⌝ }
-    ensures { λ r. ⌜ (r ≡ at + length (digitsOf x)) × (now (out .exit) ≡ put at (digitsOf x) (now (out .entry))) ⌝ }
-{
-    if x < 10 {
-        out[at] = 48 + (x as u8);
-        return at + 1;
-    }
-    let next = put_number(x / 10, out, at);
-    out[next] = 48 + ((x % 10) as u8);
-    next + 1
 }
 
 // A number and the byte that ends it.
