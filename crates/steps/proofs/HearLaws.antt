@@ -1,11 +1,10 @@
 -- What a report says, and the point that it gives, from what the code knows. Assumes nothing.
-use mathlib.Core.Path.{_≡_, refl, sym, _∙_}
-use mathlib.Core.Bool.{Bool, true, _&&_}
+use mathlib.Core.Path.{_≡_, refl, _∙_}
+use mathlib.Core.Bool.{_&&_}
 use mathlib.Core.List.{List}
 use Prim.Native.Nat.{ℕ, _≤_}
 use lib.Dec.{eqb}
 use lib.ListN.{set}
-use borrow.Author.Tests.{eqb-true}
 use Rattle.marks.specs.Held.{highestOf}
 use Rattle.downstream.specs.declared.state.Cluster.{Cluster}
 use Rattle.downstream.specs.declared.state.Report.{Report}
@@ -24,9 +23,5 @@ module _ (ws : List ℕ) (i c : ℕ) (cluster : Cluster) (ec : cluster ≡ clust
   unfolding clusterAt
   receiving-few l = rw ec l
 
-  module _ (numbers : List ℕ) (en : numbers ≡ columnAt ws 137) where
-    pub point-stays : (b : Bool) → b ≡ eqb (wordAt ws 136) (pointFrom cluster (set numbers i c)) → b ≡ true → wordAt ws 136 ≡ pointFrom (clusterAt ws 67) (set (columnAt ws 137) i c)
-    point-stays b e t = eqb-true _ _ (sym e ∙ t) ∙ rw (ec, en) refl
-
-    pub point-moves : (p : ℕ) → p ≡ pointFrom cluster (set numbers i c) → p ≡ pointFrom (clusterAt ws 67) (set (columnAt ws 137) i c)
-    point-moves p e = e ∙ rw (ec, en) refl
+  pub point-moves : (numbers : List ℕ) (p : ℕ) → numbers ≡ columnAt ws 137 → p ≡ pointFrom cluster (set numbers i c) → p ≡ pointFrom (clusterAt ws 67) (set (columnAt ws 137) i c)
+  point-moves numbers p en e = e ∙ rw (ec, en) refl

@@ -3,6 +3,7 @@ pub mod ColumnLaws
 pub mod EntryLaws
 pub mod HeardLaws
 pub mod HearLaws
+pub mod PointLaws
 pub mod StoreLaws
 pub mod RefusalLaws
 pub mod VerdictLaws

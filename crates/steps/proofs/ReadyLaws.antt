@@ -1,21 +1,23 @@
 -- An accepted report to the state that stands in the words: what is known of it before it is taken. Assumes nothing.
-use mathlib.Core.Path.{_≡_, refl, ap, _∙_}
+use mathlib.Core.Path.{_≡_, refl, ap, sym, _∙_}
 use mathlib.Core.Bool.{true}
 use mathlib.Core.List.{List}
-use Prim.Native.Nat.{ℕ, _-_, _≤_, _<_}
+use Prim.Native.Nat.{ℕ, _+_, _-_, _≤_, _<_}
 use native.Mathlib.Omega.{arith}
 use lib.ListN.{set}
+use Rattle.basics.proofs.SumLaws.{list-at}
 use Rattle.marks.specs.Held.{highestOf}
 use Rattle.downstream.specs.declared.state.Downstream.{Downstream}
-use Rattle.downstream.specs.State.{reportAt, pointFrom}
-use Rattle.downstream.proofs.FormedLaws.{kept-span, span-limit, span-order}
+use Rattle.downstream.specs.declared.state.Report.{Report}
+use Rattle.downstream.specs.State.{noReport, reportAt, pointFrom}
+use Rattle.downstream.proofs.FormedLaws.{kept-span, kept-point, span-limit, span-order}
 use Rattle.judging.specs.declared.complaints.Hearing.{Hearing}
 use Rattle.judging.specs.Complaints.{isAgain, pointAfter, Taking}
-use Rattle.judging.proofs.Accepted.{may-take}
+use Rattle.judging.proofs.Accepted.{may-take, number-up}
 use Rattle.window.specs.declared.state.Window.{Window}
 use Rattle.window.specs.Reporting.{Reportable}
 use Rattle.window.specs.Answers.{withDownstream, stepOf, stepOut}
-use Rattle.words.specs.Taken.{wordAt, fits, columnAt, clusterAt, reportsIn, windowIn}
+use Rattle.words.specs.Taken.{wordAt, fits, columnAt, clusterAt, reportIn, reportsIn, windowIn}
 use Rattle.words.specs.Put.{wordsOf}
 use Rattle.words.proofs.JudgeLaws.{numbers-column}
 use Rattle.steps.specs.Stepping.{Stepping, stepIn}
@@ -44,6 +46,15 @@ module _ (ws : List ℕ) (i c mask room : ℕ) (a : Reportable (windowIn ws) i c
   pub ready-point : wordAt ws 136 ≤ 1000000000000
   unfolding windowIn
   ready-point = let k = kept-span d (w .sent) (a .accepting .kept) in omega (arith, span-limit (d .point) (w .sent) k, span-order (d .point) (w .sent) k)
+
+  -- the point before is that of the numbers as they are, and none of them falls
+  pub ready-before : wordAt ws 136 ≡ pointFrom (clusterAt ws 67) (columnAt ws 137)
+  unfolding windowIn
+  ready-before = kept-point d (w .sent) (a .accepting .kept) ∙ ap (pointFrom (clusterAt ws 67)) (sym (numbers-column ws))
+
+  pub ready-up : wordAt ws (137 + i) ≤ c
+  unfolding windowIn reportsIn
+  ready-up = omega (arith, ap (λ (r : Report). r .number) (list-at (reportIn ws) noReport 64 i ready-member), number-up d (w .sent) i c mask (a .accepting))
 
   -- the point that the numbers in the words give
   pub point-is : (p : ℕ) → p ≡ pointFrom (clusterAt ws 67) (set (columnAt ws 137) i c) → p ≡ pointAfter d i c mask

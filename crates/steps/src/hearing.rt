@@ -3,7 +3,7 @@ use crate::refusing::former_in;
 use judging::Hearing;
 ghost use mathlib.Core.Path.{_≡_};
 ghost use mathlib.Core.Bool.{true, not, _&&_, _||_};
-ghost use Prim.Native.Nat.{_≤_, _<_};
+ghost use Prim.Native.Nat.{_+_, _≤_, _<_};
 ghost use lib.Dec.{eqb};
 ghost use lib.ListN.{set};
 ghost use Rattle.marks.specs.Held.{highestOf};
@@ -28,20 +28,37 @@ pub(crate) fn hearing_of(words: &[u64; 457], i: u32, c: u64, mask: u64) -> Heari
     }
 }
 
-// The point that the members' numbers give with that of member i. Mostly it stays, and whether it does is asked first.
-pub(crate) fn point_after(words: &[u64; 457], i: u32, c: u64) -> u64
-    requires { ⌜ (i < 64) × (fits (now words) ≡ true) × (wordAt (now words) 67 ≤ 64) × (wordAt (now words) 136 ≤ 1000000000000) ⌝ }
+// The point that the members' numbers give with that of member i, the former point no longer being it.
+fn point_risen(words: &[u64; 457], i: u32, c: u64) -> u64
+    requires { ⌜ (i < 64) × (fits (now words) ≡ true) × (wordAt (now words) 67 ≤ 64) ⌝ }
     ensures { λ r. ⌜ r ≡ pointFrom (clusterAt (now (words .entry)) 67) (set (columnAt (now (words .entry)) 137) i c) ⌝ }
 {
     let at = i as usize;
     let cluster = words::cluster_at(words, 67);
     let mut numbers = words::column_at(words, 137);
     numbers[at] = c;
+    downstream::point_from(cluster, numbers)
+}
+
+// The point that the members' numbers give with that of member i, which has not fallen. It rises only where this member comes to those
+// above the former point, and has with them share u + 1 or more.
+pub(crate) fn point_after(words: &[u64; 457], i: u32, c: u64) -> u64
+    requires { ⌜ (i < 64) × (fits (now words) ≡ true) × (wordAt (now words) 67 ≤ 64) × (wordAt (now words) 136 ≤ 1000000000000) × (wordAt (now words) 136 ≡ pointFrom (clusterAt (now words) 67) (columnAt (now words) 137)) × (wordAt (now words) (137 + i) ≤ c) ⌝ }
+    ensures { λ r. ⌜ r ≡ pointFrom (clusterAt (now (words .entry)) 67) (set (columnAt (now (words .entry)) 137) i c) ⌝ }
+{
     let p = words[136];
-    if downstream::point_kept(cluster, &numbers, p) {
+    let at = i as usize;
+    if c <= p {
         return p;
     }
-    downstream::point_from(cluster, numbers)
+    if p < words[137 + at] {
+        return p;
+    }
+    let above = words::reached(words, words[67] as usize, p + 1);
+    if above + words[70 + at] <= words[68] {
+        return p;
+    }
+    point_risen(words, i, c)
 }
 
 // Whether the report changes no entry: the member complains of nothing, nor does anybody else, and no entry is emptied, either because

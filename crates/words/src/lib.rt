@@ -13,6 +13,7 @@ pub use judging::column_at;
 pub use judging::formed;
 pub use opening::put_none;
 pub use opening::put_opened;
+pub use point::reached;
 pub use sending::put_sent;
 pub use straight::all_zero;
 pub use taking::cluster_at;

@@ -2,7 +2,7 @@
 use crate::clusters::share_at;
 ghost use mathlib.Core.Path.{_≡_};
 ghost use mathlib.Core.Bool.{true, cond};
-ghost use Prim.Native.Nat.{_+_, _≤_, _<_};
+ghost use Prim.Native.Nat.{_+_, _*_, _≤_, _<_};
 ghost use lib.Dec.{leb, eqb};
 ghost use lib.ListN.{take};
 ghost use Rattle.shares.specs.Point.{reachedOf, pointOf};
@@ -18,9 +18,10 @@ fn reached_share(words: &[u64; 457], n: usize, g: u64, i: usize) -> u64
 }
 
 // The share of the n members whose number is at least g.
-fn reached(words: &[u64; 457], n: usize, g: u64) -> u64
+// inner: for members that have places, and shares that fit.
+pub fn reached(words: &[u64; 457], n: usize, g: u64) -> u64
     requires { ⌜ (n ≤ 64) × (noneAbove (now words) 70 n 4294967295 ≡ true) ⌝ }
-    ensures { λ r. ⌜ r ≡ reachedOf (take n (columnAt (now (words .entry)) 70)) (columnAt (now (words .entry)) 137) g ⌝ }
+    ensures { λ r. ⌜ (r ≡ reachedOf (take n (columnAt (now (words .entry)) 70)) (columnAt (now (words .entry)) 137) g) × (r ≤ 64 * 4294967295) ⌝ }
 {
     let mut sum: u64 = 0;
     let mut i: usize = 0;

@@ -36,7 +36,7 @@ loop-again : tie.Need-loop-again Inv-loop μ-loop
 loop-again c = (search needs, search needs, search needs, search sums, search needs)
 
 returns : tie.Need-returns Inv-loop μ-loop
-returns c = search (reached-done, needs)
+returns c = (search (reached-done, needs), search needs)
 
 pub reached-spec : {M : Type 1} → statement M
 reached-spec =
