@@ -3,21 +3,26 @@ use mathlib.Core.Path.{_≡_, ap, sym, _∙_}
 use mathlib.Core.Bool.{false}
 use mathlib.Core.List.{List, _++_}
 use mathlib.Core.Logic.{inl, inr}
-use Prim.Native.Nat.{ℕ, _+_, _/_, _≤_, _<_}
+use Prim.Native.Nat.{ℕ, _+_, _-_, _/_, _^_, _≤_, _<_, min}
 use native.Mathlib.Decide.{decLt}
 use native.Mathlib.Omega.{arith}
 use lib.Bits.{bitOr, bitXor}
+use lib.Pow.{shr-le}
 use lib.ListN.{length, getD, take, drop, set}
 use lib.Seq.{take-at, length-take-le}
+use borrow.Author.Tests.{not-true}
+use mir.Val.{Fits}
+use mir.Syntax.{w64}
 use Rattle.basics.proofs.BoolLaws.{bool-cases, no-both, or-left, or-right}
 use Rattle.basics.proofs.SumLaws.{length-list, list-at, list-start, list-turn}
-use Rattle.marks.specs.Masks.{isMarked}
+use Rattle.marks.specs.Masks.{isMarked, runOf}
 use Rattle.marks.specs.Held.{heldAfter}
 use Rattle.marks.proofs.MaskLaws.{marked-past}
-use Rattle.marks.proofs.SetLaws.{marked-or, marked-xor}
+use Rattle.marks.proofs.SetLaws.{marked-or, marked-xor, marked-not}
+use Rattle.marks.proofs.RunLaws.{run-marked}
 use Rattle.marks.proofs.AfterLaws.{after-at}
 use Rattle.downstream.specs.State.{heldBy}
-use Rattle.downstream.specs.Rows.{heldRows, Steady}
+use Rattle.downstream.specs.Rows.{heldRows, Steady, SteadyUntil}
 
 -- ---- the words are filled in from the front
 module _ (numbers masks : List ℕ) (p : ℕ) where
@@ -70,6 +75,18 @@ module _ (rows : List ℕ) where
 
   pub steady-done : (i n s : ℕ) → Steady rows i s → i ≤ n → n ≤ i → Steady rows n s
   steady-done i n s h a b = let z : i ≡ n = omega arith in rw z at h
+
+-- ---- how far no word changes
+pub steady-found : (set o n w still r : ℕ) → Fits w64 set → o < n → n ≤ 64 → w ≡ set / 2 ^ o → still ≡ runOf (18446744073709551615 - w) → r ≡ min (o + still + 1) n → SteadyUntil set o n r
+steady-found set o n w still r f l few e q h = record {
+  further = omega arith;
+  within = omega arith;
+  none = λ j a b.
+      let z : o + (j - o) ≡ j = omega arith in
+      let low : w < 2 ^ 64 = omega (arith, shr-le set o, f .fits) in
+      sym (ap (λ (x : ℕ). isMarked x (j - o)) e ∙ marked-past set o (j - o) ∙ ap (isMarked set) z)
+      ∙ not-true (isMarked w (j - o)) (sym (marked-not 64 w (j - o) low (omega arith)) ∙ run-marked (18446744073709551615 - w) (j - o) (omega arith));
+}
 
 -- ---- the words in a local array, cut to the members
 module _ (numbers masks : List ℕ) (p n : ℕ) (places z : List ℕ) (e : places ≡ heldRows numbers masks p n ++ drop n z) where

@@ -1,32 +1,95 @@
--- Complaint sets of one message after another, held against what the members hold. Assumes nothing.
+-- Complaint sets of messages that the same members hold, asked of at once. Assumes nothing.
 use mathlib.Core.Path.{_≡_, refl, ap, ap₂, sym, _∙_}
 use mathlib.Core.Bool.{Bool, true, false, not, _&&_, _||_}
 use mathlib.Core.List.{List}
-use Prim.Native.Nat.{ℕ, _+_, _-_, _≤_, _<_}
+use Prim.Native.Nat.{ℕ, zero, suc, _+_, _-_, _≤_, _<_}
+use native.Mathlib.Nat.{add-zero, add-suc}
 use native.Mathlib.Decide.{decLt}
 use native.Mathlib.Omega.{arith}
+use lib.Bits.{bitOr}
 use lib.Dec.{ltb}
 use lib.ListN.{getD}
 use borrow.Author.Tests.{le-ltb}
-use Rattle.basics.proofs.SumLaws.{all-start, all-turn, all-of, all-cong}
+use Rattle.basics.specs.Sums.{allBelow}
+use Rattle.basics.proofs.SumLaws.{all-start, all-of, all-cong}
 use Rattle.marks.specs.Masks.{isMarked}
 use Rattle.marks.proofs.MaskLaws.{marked-none}
+use Rattle.marks.proofs.SetLaws.{marked-or}
 use Rattle.downstream.specs.State.{placeAfter, heldBy}
 use Rattle.downstream.specs.Formed.{complaintsKept}
-use Rattle.downstream.specs.Rows.{heldRows, Steady, allComplaintsKept, SetBefore}
+use Rattle.downstream.specs.Rows.{heldRows, Steady, SteadyUntil, allComplaintsKept, namedAmong}
 use Rattle.downstream.proofs.RowLaws.{held-next}
 
--- ---- the set before
-pub before-none : (complaints : List ℕ) (p : ℕ) → SetBefore complaints p 0 0
-before-none complaints p = record { first = λ e. refl; later = λ l. absurd (omega arith) }
+-- ---- all that is named
+module _ (complaints : List ℕ) (p from : ℕ) where
+  pub named-start : 0 ≡ namedAmong complaints p from (from - from)
+  unfolding namedAmong
+  named-start = let z : from - from ≡ 0 = omega arith in rw z refl
 
-pub before-next : (complaints : List ℕ) (p o last : ℕ) → last ≡ getD complaints (placeAfter p o) 0 → SetBefore complaints p (o + 1) last
-before-next complaints p o last e = record {
-  first = λ z. absurd (omega arith);
-  later = λ l. (let z : o ≡ o + 1 - 1 = omega arith in e ∙ ap (λ (x : ℕ). getD complaints (placeAfter p x) 0) z);
-}
+  pub named-turn : (o any : ℕ) → from ≤ o → any ≡ namedAmong complaints p from (o - from) → bitOr any (getD complaints (placeAfter p o) 0) ≡ namedAmong complaints p from (o + 1 - from)
+  unfolding namedAmong
+  named-turn o any l e =
+      let z : o + 1 - from ≡ suc (o - from) = omega arith in
+      let y : from + (o - from) ≡ o = omega arith in
+      rw (z, y) (ap (λ (x : ℕ). bitOr x (getD complaints (placeAfter p o) 0)) e)
+
+  pub named-done : (o to any : ℕ) → any ≡ namedAmong complaints p from (o - from) → o ≤ to → to ≤ o → any ≡ namedAmong complaints p from (to - from)
+  named-done o to any e a b = let z : o ≡ to = omega arith in rw z at e
+
+-- ---- two tests of each number, and of numbers in two parts
+all-both : (f g : ℕ → Bool) (n : ℕ) → allBelow n (λ j. f j && g j) ≡ (allBelow n f && allBelow n g)
+unfolding allBelow
+all-both f g zero = refl
+all-both f g (suc n) = ap (λ (b : Bool). b && (f n && g n)) (all-both f g n) ∙ crossed (allBelow n f) (allBelow n g) (f n) (g n)
+  where
+    crossed : (a b x y : Bool) → ((a && b) && (x && y)) ≡ ((a && x) && (b && y))
+    crossed true true x y = refl
+    crossed true false true y = refl
+    crossed true false false y = refl
+    crossed false b x y = refl
+
+all-parts : (f : ℕ → Bool) (o n : ℕ) → allBelow (o + n) f ≡ (allBelow o f && allBelow n (λ j. f (o + j)))
+unfolding allBelow
+all-parts f o zero = ap (λ (x : ℕ). allBelow x f) (add-zero o) ∙ sym (and-true (allBelow o f))
+  where
+    and-true : (b : Bool) → (b && true) ≡ b
+    and-true true = refl
+    and-true false = refl
+all-parts f o (suc n) = ap (λ (x : ℕ). allBelow x f) (add-suc o n) ∙ ap (λ (b : Bool). b && f (o + n)) (all-parts f o n) ∙ moved (allBelow o f) (allBelow n (λ j. f (o + j))) (f (o + n))
+  where
+    moved : (a b x : Bool) → ((a && b) && x) ≡ (a && (b && x))
+    moved true b x = refl
+    moved false b x = refl
 
 module _ (members : ℕ) (numbers masks complaints : List ℕ) (p : ℕ) where
+  abbrev lacks : ℕ → ℕ → Bool
+  lacks k i = ltb i members && not (heldBy numbers masks k i)
+
+  -- ---- what is asked of two sets, and of none
+  kept-or : (k a b : ℕ) → complaintsKept members numbers masks k (bitOr a b) ≡ (complaintsKept members numbers masks k a && complaintsKept members numbers masks k b)
+  unfolding complaintsKept
+  kept-or k a b =
+      all-cong (λ i. not (isMarked (bitOr a b) i) || lacks k i) (λ i. (not (isMarked a i) || lacks k i) && (not (isMarked b i) || lacks k i)) 64
+      (λ i l. ap (λ (t : Bool). not t || lacks k i) (marked-or a b i) ∙ either (isMarked a i) (isMarked b i) (lacks k i))
+      ∙ all-both (λ i. not (isMarked a i) || lacks k i) (λ i. not (isMarked b i) || lacks k i) 64
+    where
+      either : (x y z : Bool) → (not (x || y) || z) ≡ ((not x || z) && (not y || z))
+      either true true true = refl
+      either true true false = refl
+      either true false true = refl
+      either true false false = refl
+      either false true z = refl
+      either false false z = refl
+
+  kept-none : (k : ℕ) → complaintsKept members numbers masks k 0 ≡ true
+  unfolding complaintsKept
+  kept-none k = all-of (λ i. not (isMarked 0 i) || lacks k i) 64 (λ i l. rw (marked-none i) refl)
+
+  kept-named : (k o n : ℕ) → complaintsKept members numbers masks k (namedAmong complaints p o n) ≡ allBelow n (λ j. complaintsKept members numbers masks k (getD complaints (placeAfter p (o + j)) 0))
+  unfolding namedAmong allBelow
+  kept-named k o zero = kept-none k
+  kept-named k o (suc n) = kept-or k (namedAmong complaints p o n) (getD complaints (placeAfter p (o + n)) 0) ∙ ap (λ (b : Bool). b && complaintsKept members numbers masks k (getD complaints (placeAfter p (o + n)) 0)) (kept-named k o n)
+
   abbrev one : ℕ → Bool
   one o = complaintsKept members numbers masks (p + 1 + o) (getD complaints (placeAfter p o) 0)
 
@@ -34,60 +97,32 @@ module _ (members : ℕ) (numbers masks complaints : List ℕ) (p : ℕ) where
   unfolding allComplaintsKept
   sets-start = all-start one
 
-  sets-more : (o : ℕ) → allComplaintsKept members numbers masks complaints p (o + 1) ≡ (allComplaintsKept members numbers masks complaints p o && one o)
-  unfolding allComplaintsKept
-  sets-more o = sym (all-turn one {i = o} refl refl)
-
   pub sets-done : (o n : ℕ) (kept : Bool) → kept ≡ allComplaintsKept members numbers masks complaints p o → o ≤ n → n ≤ o → kept ≡ allComplaintsKept members numbers masks complaints p n
   sets-done o n kept e a b = let z : o ≡ n = omega arith in rw z at e
 
-  module _ (o : ℕ) (kept : Bool) (e : kept ≡ allComplaintsKept members numbers masks complaints p o) where
-    pub sets-asked : (bits : ℕ) (told : Bool) → bits ≡ getD complaints (placeAfter p o) 0 → told ≡ complaintsKept members numbers masks (p + 1 + o) bits
-        → (kept && told) ≡ allComplaintsKept members numbers masks complaints p (o + 1)
-    sets-asked bits told f q = ap₂ _&&_ e (q ∙ ap (complaintsKept members numbers masks (p + 1 + o)) f) ∙ sym (sets-more o)
+  -- ---- messages that the same members hold
+  module _ (changing o n r : ℕ) (few : n ≤ 64) (h : Steady (heldRows numbers masks p members) members changing) (s : SteadyUntil changing o n r) where
+    held-same : (i d : ℕ) → i < members → o + d < r → heldBy numbers masks (p + 1 + (o + d)) i ≡ heldBy numbers masks (p + 1 + o) i
+    held-same i zero l m = ap (λ (x : ℕ). heldBy numbers masks (p + 1 + x) i) (add-zero o)
+    held-same i (suc d) l m =
+        let z : o + suc d ≡ o + d + 1 = omega arith in
+        ap (λ (x : ℕ). heldBy numbers masks (p + 1 + x) i) z
+        ∙ held-next numbers masks p members changing h i (o + d) l (omega (arith, s .within)) (s .none (o + d) (omega arith) (omega arith))
+        ∙ held-same i d l (omega arith)
 
-    -- nobody complains of it
-    pub sets-none : (bits : ℕ) → bits ≡ getD complaints (placeAfter p o) 0 → bits ≡ 0 → kept ≡ allComplaintsKept members numbers masks complaints p (o + 1)
+    kept-same : (d bits : ℕ) → o + d < r → complaintsKept members numbers masks (p + 1 + o) bits ≡ complaintsKept members numbers masks (p + 1 + (o + d)) bits
     unfolding complaintsKept
-    sets-none bits f z =
-        let none : one o ≡ true = all-of (λ i. not (isMarked (getD complaints (placeAfter p o) 0) i) || (ltb i members && not (heldBy numbers masks (p + 1 + o) i))) 64
-        (λ i l. rw (sym f ∙ z, marked-none i) refl) in
-        e ∙ sym (sets-more o ∙ ap (λ (b : Bool). allComplaintsKept members numbers masks complaints p o && b) none ∙ and-true (allComplaintsKept members numbers masks complaints p o))
-      where
-        and-true : (b : Bool) → (b && true) ≡ b
-        and-true true = refl
-        and-true false = refl
+    kept-same d bits m = all-cong (λ i. not (isMarked bits i) || lacks (p + 1 + o) i) (λ i. not (isMarked bits i) || lacks (p + 1 + (o + d)) i) 64 (λ i k. elim (decLt i members) [
+      | yes l ↦ ap (λ (y : Bool). not (isMarked bits i) || (ltb i members && not y)) (sym (held-same i d l m))
+      | no l ↦ simp (le-ltb i members (omega arith))
+    ])
 
-    -- its set is that of the message before, and the same members hold it
-    module _ (bits last changing before : ℕ) (b : Bool) (few : o < 64) (h : Steady (heldRows numbers masks p members) members changing) (s : SetBefore complaints p o last) (f : bits ≡ getD complaints (placeAfter p o) 0) (some : bits ≡ 0 → ⊥) (g : bits ≡ last) (eb : before ≡ o - 1) (q : b ≡ isMarked changing before) (t : b ≡ false) where
-      later : 1 ≤ o
-      later = elim (decLt 0 o) [
-        | yes l ↦ l
-        | no l ↦ absurd (some (g ∙ s .first (omega arith)))
-      ]
-
-      same-one : one o ≡ one (o - 1)
-      unfolding complaintsKept
-      same-one = all-cong _ _ 64 (λ i l. ap₂ (λ (x : ℕ) (y : Bool). not (isMarked x i) || y) (sym f ∙ g ∙ s .later later) (held i))
-        where
-          z : o - 1 + 1 ≡ o
-          z = omega (arith, later)
-
-          held : (i : ℕ) → (ltb i members && not (heldBy numbers masks (p + 1 + o) i)) ≡ (ltb i members && not (heldBy numbers masks (p + 1 + (o - 1)) i))
-          held i = elim (decLt i members) [
-            | yes l ↦ ap (λ (y : Bool). ltb i members && not y)
-                (sym (ap (λ (x : ℕ). heldBy numbers masks (p + 1 + x) i) z) ∙ held-next numbers masks p members changing h i (o - 1) l (omega (arith, later)) (sym (ap (isMarked changing) eb) ∙ sym q ∙ t))
-            | no l ↦ simp (le-ltb i members (omega arith))
-          ]
-
-      pub sets-same : kept ≡ allComplaintsKept members numbers masks complaints p (o + 1)
-      sets-same =
-          let z : o - 1 + 1 ≡ o = omega (arith, later) in
-          let most = allComplaintsKept members numbers masks complaints p (o - 1) in
-          let parts : allComplaintsKept members numbers masks complaints p o ≡ (most && one (o - 1)) = sym (ap (allComplaintsKept members numbers masks complaints p) z) ∙ sets-more (o - 1) in
-          e ∙ parts ∙ twice most (one (o - 1)) ∙ sym (sets-more o ∙ ap₂ _&&_ parts same-one)
-        where
-          twice : (x y : Bool) → (x && y) ≡ ((x && y) && y)
-          twice true true = refl
-          twice true false = refl
-          twice false y = refl
+    pub sets-turn : (kept told : Bool) (bits : ℕ) → kept ≡ allComplaintsKept members numbers masks complaints p o → bits ≡ namedAmong complaints p o (r - o)
+        → told ≡ complaintsKept members numbers masks (p + 1 + o) bits → (kept && told) ≡ allComplaintsKept members numbers masks complaints p r
+    unfolding allComplaintsKept
+    sets-turn kept told bits e f q =
+        let z : o + (r - o) ≡ r = omega (arith, s .further) in
+        let all : told ≡ allBelow (r - o) (λ j. one (o + j)) =
+        q ∙ ap (complaintsKept members numbers masks (p + 1 + o)) f ∙ kept-named (p + 1 + o) o (r - o)
+        ∙ all-cong (λ j. complaintsKept members numbers masks (p + 1 + o) (getD complaints (placeAfter p (o + j)) 0)) (λ j. one (o + j)) (r - o) (λ j l. kept-same j (getD complaints (placeAfter p (o + j)) 0) (omega arith)) in
+        ap₂ _&&_ e all ∙ sym (all-parts one o (r - o)) ∙ ap (λ (x : ℕ). allBelow x one) z

@@ -2,7 +2,8 @@
 use mathlib.Core.Bool.{Bool, false}
 use mathlib.Core.Path.{_≡_}
 use mathlib.Core.List.{List}
-use Prim.Native.Nat.{ℕ, _+_, _-_, _≤_, _<_}
+use Prim.Native.Nat.{ℕ, zero, suc, _+_, _≤_, _<_}
+use lib.Bits.{bitOr}
 use lib.ListN.{getD}
 use Rattle.basics.specs.Sums.{allBelow, listBelow}
 use Rattle.marks.specs.Masks.{isMarked}
@@ -18,11 +19,17 @@ heldRows numbers masks p n = listBelow n (λ i. heldAfter p (getD numbers i 0) (
 pub record Steady (rows : List ℕ) (n set : ℕ) : Type 0 where
   pub same : (i j : ℕ) → i < n → isMarked set j ≡ false → isMarked (getD rows i 0) (j + 1) ≡ isMarked (getD rows i 0) j
 
+-- from offset o on, up to and without r, which is at most n, a set of changes has none
+pub record SteadyUntil (set o n r : ℕ) : Type 0 where
+  pub further : o < r
+  pub within : r ≤ n
+  pub none : (j : ℕ) → o ≤ j → j + 1 < r → isMarked set j ≡ false
+
 -- the complaint sets of the n messages after p name only members that exist and lack the message
 unfoldable pub allComplaintsKept : ℕ → List ℕ → List ℕ → List ℕ → ℕ → ℕ → Bool
 allComplaintsKept members numbers masks complaints p n = allBelow n (λ o. complaintsKept members numbers masks (p + 1 + o) (getD complaints (placeAfter p o) 0))
 
--- the complaint set of the message before p + 1 + o; none before the first
-pub record SetBefore (complaints : List ℕ) (p o last : ℕ) : Type 0 where
-  pub first : o ≡ 0 → last ≡ 0
-  pub later : 1 ≤ o → last ≡ getD complaints (placeAfter p (o - 1)) 0
+-- the members that complain of any of the n messages from offset o after p on
+unfoldable pub namedAmong : List ℕ → ℕ → ℕ → ℕ → ℕ
+namedAmong complaints p o zero = 0
+namedAmong complaints p o (suc n) = bitOr (namedAmong complaints p o n) (getD complaints (placeAfter p (o + n)) 0)

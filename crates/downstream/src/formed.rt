@@ -141,8 +141,7 @@ pub fn point_from(c: Cluster, numbers: [u64; 64]) -> u64
 }
 
 // Whether p is the point that the members' numbers give.
-// inner: for a cluster whose members have places, and a point in range.
-pub fn point_kept(c: Cluster, numbers: &[u64; 64], p: u64) -> bool
+fn point_kept(c: Cluster, numbers: &[u64; 64], p: u64) -> bool
     requires { ⌜ (c .members ≤ 64) × (p ≤ 1000000000000) ⌝ }
     ensures { λ r. ⌜ r ≡ eqb p (pointFrom c (now (numbers .entry))) ⌝ }
 {

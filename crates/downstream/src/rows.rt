@@ -1,9 +1,9 @@
 // What each member holds after p as one word, and where these words change.
 ghost use mathlib.Core.Path.{_≡_};
 ghost use mathlib.Core.List.{_++_};
-ghost use Prim.Native.Nat.{_≤_};
+ghost use Prim.Native.Nat.{_≤_, _<_};
 ghost use lib.ListN.{length, drop};
-ghost use Rattle.downstream.specs.Rows.{heldRows, Steady};
+ghost use Rattle.downstream.specs.Rows.{heldRows, Steady, SteadyUntil};
 
 // Fills the first n places with what each member holds of the 64 messages after p.
 // inner: the places are 64.
@@ -30,4 +30,14 @@ pub fn changes(rows: &[u64]) -> u64
         i += 1;
     }
     set
+}
+
+// Up to where, from offset o on, no word changes: without this offset, which is at most n.
+// inner: for messages that have a bit.
+pub fn steady_until(changing: u64, o: u64, n: u64) -> u64
+    requires { ⌜ (o < n) × (n ≤ 64) ⌝ }
+    ensures { λ r. ⌜ SteadyUntil changing o n r ⌝ }
+{
+    let still = marks::run(!marks::past(changing, o)) as u64;
+    basics::least(o + still + 1, n)
 }

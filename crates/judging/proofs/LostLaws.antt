@@ -3,39 +3,24 @@ use mathlib.Core.Path.{_≡_, refl, ap, ap₂, sym, _∙_}
 use mathlib.Core.Bool.{Bool, true, false, cond, not, _&&_, _||_}
 use mathlib.Core.List.{List}
 use mathlib.Core.Logic.{inl, inr}
-use Prim.Native.Nat.{ℕ, zero, suc, _+_, _-_, _/_, _^_, _≤_, _<_, min}
+use Prim.Native.Nat.{ℕ, zero, suc, _+_, _-_, _^_, _≤_, _<_}
 use native.Mathlib.Nat.{add-zero}
 use native.Mathlib.Decide.{decLt}
 use native.Mathlib.Omega.{arith}
 use lib.Bits.{bitOr, or-lt}
 use lib.Dec.{leb, ltb}
-use lib.Pow.{shr-le, pow-mono}
-use borrow.Author.Tests.{le-leb, lt-ltb, le-ltb, not-true}
-use mir.Val.{Fits}
-use mir.Syntax.{w64}
-use lib.ListN.{length, getD, set}
+use lib.Pow.{pow-mono}
+use borrow.Author.Tests.{le-leb, lt-ltb, le-ltb}
+use lib.ListN.{length, getD}
 use Rattle.basics.proofs.BoolLaws.{bool-cases, and-not-right}
-use Rattle.marks.specs.Masks.{isMarked, setBelow, runOf, amongOf}
-use Rattle.marks.proofs.MaskLaws.{marked-past, marked-beyond, same-marks}
-use Rattle.marks.proofs.SetLaws.{marked-or, marked-not, marked-set, set-lt}
-use Rattle.marks.proofs.RunLaws.{run-marked}
+use Rattle.marks.specs.Masks.{isMarked, setBelow, amongOf}
+use Rattle.marks.proofs.MaskLaws.{marked-beyond, same-marks}
+use Rattle.marks.proofs.SetLaws.{marked-or, marked-set, set-lt}
 use Rattle.marks.proofs.FirstLaws.{among-at, among-lt}
 use Rattle.shares.specs.Shares.{shareOf}
 use Rattle.shares.proofs.ShareLaws.{share-same}
-use Rattle.downstream.specs.Rows.{Steady}
-use Rattle.judging.specs.Verdicts.{holdingShare, SteadyUntil, isLost}
-
--- ---- how far no word changes
-pub steady-found : (set o n w still r : ℕ) → Fits w64 set → o < n → n ≤ 64 → w ≡ set / 2 ^ o → still ≡ runOf (18446744073709551615 - w) → r ≡ min (o + still + 1) n → SteadyUntil set o n r
-steady-found set o n w still r f l few e q h = record {
-  further = omega arith;
-  within = omega arith;
-  none = λ j a b.
-      let z : o + (j - o) ≡ j = omega arith in
-      let low : w < 2 ^ 64 = omega (arith, shr-le set o, f .fits) in
-      sym (ap (λ (x : ℕ). isMarked x (j - o)) e ∙ marked-past set o (j - o) ∙ ap (isMarked set) z)
-      ∙ not-true (isMarked w (j - o)) (sym (marked-not 64 w (j - o) low (omega arith)) ∙ run-marked (18446744073709551615 - w) (j - o) (omega arith));
-}
+use Rattle.downstream.specs.Rows.{Steady, SteadyUntil}
+use Rattle.judging.specs.Verdicts.{holdingShare, isLost}
 
 -- ---- the share that holds the messages there
 module _ (shares rows : List ℕ) (changing o n r : ℕ) (m : length rows ≡ length shares) (h : Steady rows (length rows) changing) (k : SteadyUntil changing o n r) where

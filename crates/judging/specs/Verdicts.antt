@@ -1,8 +1,7 @@
 -- Judging the open messages: which are lost, and what a verdict changes. Assumes nothing.
-use mathlib.Core.Bool.{Bool, false, cond, not, _&&_}
-use mathlib.Core.Path.{_≡_}
+use mathlib.Core.Bool.{Bool, cond, not, _&&_}
 use mathlib.Core.List.{List}
-use Prim.Native.Nat.{ℕ, zero, suc, _+_, _-_, _≤_, _<_}
+use Prim.Native.Nat.{ℕ, zero, suc, _+_, _-_, _≤_}
 use lib.Bits.{bitOr}
 use lib.Dec.{leb, ltb}
 use lib.ListN.{getD}
@@ -34,12 +33,6 @@ complainersOf complaints (suc n) = bitOr (complainersOf complaints n) (getD comp
 -- the share of the members whose word has bit o
 unfoldable pub holdingShare : List ℕ → List ℕ → ℕ → ℕ
 holdingShare shares rows o = shareOf shares (λ i. isMarked (getD rows i 0) o)
-
--- from offset o on, up to and without r, which is at most n, a set of changes has none
-pub record SteadyUntil (set o n r : ℕ) : Type 0 where
-  pub further : o < r
-  pub within : r ≤ n
-  pub none : (j : ℕ) → o ≤ j → j + 1 < r → isMarked set j ≡ false
 
 -- a message in a set of which those that hold it have share u at most
 unfoldable pub isLost : List ℕ → ℕ → List ℕ → ℕ → ℕ → Bool

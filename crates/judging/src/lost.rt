@@ -1,23 +1,15 @@
 // Which of the messages that enough members complain of too few hold: the dear question, asked by what each member holds after p as one
 // word.
 use downstream::changes;
+use downstream::steady_until;
 ghost use mathlib.Core.Path.{_≡_};
 ghost use mathlib.Core.Bool.{cond};
-ghost use Prim.Native.Nat.{_≤_, _<_};
+ghost use Prim.Native.Nat.{_≤_};
 ghost use lib.Bits.{bitOr};
 ghost use lib.Dec.{leb};
 ghost use lib.ListN.{length};
 ghost use Rattle.marks.specs.Masks.{setBelow, amongOf};
-ghost use Rattle.judging.specs.Verdicts.{SteadyUntil, isLost};
-
-// Up to where, from offset o on, no word changes: without this offset, which is at most n.
-fn steady_until(changing: u64, o: u64, n: u64) -> u64
-    requires { ⌜ (o < n) × (n ≤ 64) ⌝ }
-    ensures { λ r. ⌜ SteadyUntil changing o n r ⌝ }
-{
-    let still = marks::run(!marks::past(changing, o)) as u64;
-    basics::least(o + still + 1, n)
-}
+ghost use Rattle.judging.specs.Verdicts.{isLost};
 
 // The set with those of another between two offsets, where this share is at most u.
 fn with_lost(set: u64, enough: u64, from: u64, to: u64, share: u64, u: u32) -> u64

@@ -1,19 +1,19 @@
--- The invariant: the sets of the first o messages are kept just where `kept` says so, and `last` is the set of the message before.
+-- The invariant: the sets of the first o messages are kept just where `kept` says so.
 use Prim.Native.Nat.{_≤_, _-_}
 use mathlib.Core.Path.{_≡_}
-use Rattle.downstream.specs.Rows.{heldRows, Steady, allComplaintsKept, SetBefore}
+use Rattle.downstream.specs.Rows.{heldRows, Steady, allComplaintsKept}
 use Rattle.downstream.proofs.FormedLaws.{prefixes}
 use Rattle.downstream.proofs.RowLaws.{steady-cut}
-use Rattle.downstream.proofs.SetLaws.{before-none, before-next, sets-start, sets-done}
+use Rattle.downstream.proofs.SetLaws.{sets-start, sets-turn, sets-done}
 use borrow.Author.Needs.{needs}
 use Rattle.downstream.proofs.sets.all_complaints_kept.Statement.{statement}
 use Rattle.downstream.proofs.sets.all_complaints_kept.Tie as tie
 
 abbrev Inv-loop : tie.InvT-loop
-Inv-loop members numbers masks complaints p n changing kept₀ last₀ o₀ kept last o = (o ≤ n) × (n ≤ 64) × (members ≤ 64) × (p ≤ 1000000000000) × Steady (heldRows numbers masks p members) members changing × SetBefore complaints p o last × (kept ≡ allComplaintsKept members numbers masks complaints p o)
+Inv-loop members numbers masks complaints p n changing kept₀ o₀ kept o = (o ≤ n) × (n ≤ 64) × (members ≤ 64) × (p ≤ 1000000000000) × Steady (heldRows numbers masks p members) members changing × (kept ≡ allComplaintsKept members numbers masks complaints p o)
 
 abbrev μ-loop : tie.MeasureT-loop
-μ-loop members numbers masks complaints p n changing kept₀ last₀ o₀ kept last o = n - o
+μ-loop members numbers masks complaints p n changing kept₀ o₀ kept o = n - o
 
 slice-aggregate-fill-held : tie.Need-slice-aggregate-fill-held Inv-loop μ-loop
 slice-aggregate-fill-held c = search needs
@@ -34,28 +34,28 @@ loop-holds : tie.Need-loop-holds Inv-loop μ-loop
 loop-holds c =
     let a = c .before .before .before .before .before .args in
     let steady = steady-cut (a .numbers .now) (a .masks .now) (a .p) (a .members) _ _ _ (c .before .before .before .fill-held .ensures) (c .changes .ensures) in
-    (search needs, search needs, search needs, search needs, steady, search before-none, search sets-start)
+    (search needs, search needs, search needs, search needs, steady, search sets-start)
 
-next-kept-requires : tie.Need-next-kept-requires Inv-loop μ-loop
-next-kept-requires c κs = ((search needs, search needs, search needs, search needs), (search needs, search needs))
+steady-until-requires : tie.Need-steady-until-requires Inv-loop μ-loop
+steady-until-requires c κs = search needs
 
-add-last : tie.Need-add-last Inv-loop μ-loop
-add-last c = search needs
+named-among-requires : tie.Need-named-among-requires Inv-loop μ-loop
+named-among-requires c κs = search needs
 
-mul-last : tie.Need-mul-last Inv-loop μ-loop
-mul-last c = search needs
+add-complaints-kept : tie.Need-add-complaints-kept Inv-loop μ-loop
+add-complaints-kept c = search needs
 
-element-copy-out-last : tie.Need-element-copy-out-last Inv-loop μ-loop
-element-copy-out-last c = search needs
+add-complaints-kept-2 : tie.Need-add-complaints-kept-2 Inv-loop μ-loop
+add-complaints-kept-2 c = search needs
 
-add-o : tie.Need-add-o Inv-loop μ-loop
-add-o c = search needs
+complaints-kept-requires : tie.Need-complaints-kept-requires Inv-loop μ-loop
+complaints-kept-requires c κs = search needs
 
 loop-less : tie.Need-loop-less Inv-loop μ-loop
 loop-less c = search needs
 
 loop-again : tie.Need-loop-again Inv-loop μ-loop
-loop-again c = (search needs, search needs, search needs, search needs, search needs, search before-next, search needs)
+loop-again c = (search needs, search needs, search needs, search needs, search needs, search sets-turn)
 
 returns : tie.Need-returns Inv-loop μ-loop
 returns c = search sets-done
@@ -72,11 +72,11 @@ all-complaints-kept-spec =
     slice-aggregate-changes
     changes-requires
     loop-holds
-    next-kept-requires
-    add-last
-    mul-last
-    element-copy-out-last
-    add-o
+    steady-until-requires
+    named-among-requires
+    add-complaints-kept
+    add-complaints-kept-2
+    complaints-kept-requires
     loop-less
     loop-again
     returns)

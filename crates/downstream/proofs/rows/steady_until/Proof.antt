@@ -1,8 +1,8 @@
 -- The first change at o or after it is as far on as the complement's marks run.
-use Rattle.judging.proofs.LostLaws.{steady-found}
+use Rattle.downstream.proofs.RowLaws.{steady-found}
 use borrow.Author.Needs.{needs}
-use Rattle.judging.proofs.lost.steady_until.Statement.{statement}
-use Rattle.judging.proofs.lost.steady_until.Tie as tie
+use Rattle.downstream.proofs.rows.steady_until.Statement.{statement}
+use Rattle.downstream.proofs.rows.steady_until.Tie as tie
 
 past-requires : tie.Need-past-requires
 past-requires c κs = search needs
