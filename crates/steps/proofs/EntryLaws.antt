@@ -17,7 +17,7 @@ use Rattle.judging.specs.Complaints.{entriesAfter, complainedEntry, complaintsA
 use Rattle.judging.specs.Verdicts.{raisedEntry}
 use Rattle.judging.proofs.PlaceLaws.{entries-place}
 use Rattle.words.specs.Taken.{wordAt, entryIn, entriesIn}
-use Rattle.steps.specs.Columns.{countsAfter, heardAfter, raisedCounts, emptiedSets}
+use Rattle.steps.specs.Columns.{openAt, countsAfter, heardAfter, changedAt, raisedCounts, emptiedSets}
 
 -- ---- two columns with the same words
 pub same-list : {A : Type 0} (f g : ℕ → A) (d : A) → ((j : ℕ) → j < 64 → f j ≡ g j) → listBelow 64 f ≡ listBelow 64 g
@@ -51,7 +51,7 @@ module _ (ws : List ℕ) (i c mask : ℕ) (again : Bool) (p n : ℕ) where
       ∙ ap (λ (e : Entry). cond (ltb (offsetAt p j) n) (complainedEntry i c mask again p (offsetAt p j) e) noEntry) (list-at (entryIn ws) noEntry 64 j l)
 
   pub heard-counts : countsAfter ws p n ≡ countsOf heard
-  unfolding countsAfter countsOf
+  unfolding openAt countsOf
   heard-counts = same-list (λ j. cond (ltb (offsetAt p j) n) (wordAt ws (329 + j)) 0) (λ j. getD heard j noEntry .count) 0
       (λ j l. sym (ap (λ (e : Entry). e .count) (heard-place j l) ∙ count-of (ltb (offsetAt p j) n) (complainedEntry i c mask again p (offsetAt p j) (entryIn ws j)) noEntry))
 
@@ -74,12 +74,12 @@ module _ (due p n : ℕ) (l : List Entry) (past : (o : ℕ) → n ≤ o → isMa
       ]
 
   pub judged-counts : raisedCounts due p (countsOf l) ≡ countsOf judged
-  unfolding raisedCounts countsOf
+  unfolding changedAt countsOf
   judged-counts = same-list (λ j. cond (isMarked due (offsetAt p j)) (getD (countsOf l) j 0 + 1) (getD (countsOf l) j 0)) (λ j. getD judged j noEntry .count) 0
       (λ j m. rw (count-in l j m) (sym (ap (λ (e : Entry). e .count) (judged-place j m) ∙ count-of (isMarked due (offsetAt p j)) (raisedEntry (getD l j noEntry)) (getD l j noEntry))))
 
   pub judged-sets : emptiedSets due p (complaintsOf l) ≡ complaintsOf judged
-  unfolding emptiedSets complaintsOf
+  unfolding changedAt complaintsOf
   judged-sets = same-list (λ j. cond (isMarked due (offsetAt p j)) 0 (getD (complaintsOf l) j 0)) (λ j. getD judged j noEntry .complaints) 0
       (λ j m. rw (complaints-in l j m) (sym (ap (λ (e : Entry). e .complaints) (judged-place j m) ∙ complaints-of (isMarked due (offsetAt p j)) (raisedEntry (getD l j noEntry)) (getD l j noEntry))))
 

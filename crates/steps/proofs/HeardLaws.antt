@@ -1,38 +1,29 @@
 -- The complaint sets by words over the messages after p, bit for bit. Assumes nothing.
 use mathlib.Core.Path.{_≡_, refl, ap, sym, _∙_}
-use mathlib.Core.Bool.{Bool, true, false, cond, _&&_, _||_}
+use mathlib.Core.Bool.{Bool, true, false, cond, not, _&&_, _||_}
 use mathlib.Core.List.{List}
 use mathlib.Core.Logic.{inl, inr}
-use Prim.Native.Nat.{ℕ, zero, suc, _+_, _-_, _<_}
+use Prim.Native.Nat.{ℕ, zero, suc, _+_, _-_, _^_, _<_}
 use native.Mathlib.Omega.{arith}
-use lib.Bits.{bitOr}
+use lib.Bits.{bitOr, bitAnd}
 use mir.Val.{boolByte}
 use lib.Dec.{leb, ltb, eqb}
-use borrow.Author.Tests.{lt-ltb, le-leb, leb-true, ltb-true, ne-eqb, eqb-true}
-use Rattle.basics.specs.Sums.{listBelow}
+use lib.ListN.{getD}
+use borrow.Author.Tests.{lt-ltb, le-ltb, le-leb, leb-true, ltb-true, ne-eqb, eqb-true}
 use Rattle.basics.proofs.BoolLaws.{bool-cases, same-test, eqb-same}
+use Rattle.basics.proofs.SumLaws.{list-at}
 use Rattle.hamilton.proofs.CountLaws.{as-number}
-use Rattle.marks.specs.Masks.{isMarked, markOf, unmarkOf}
+use Rattle.marks.specs.Masks.{isMarked, markOf, unmarkOf, amongOf}
 use Rattle.marks.specs.Held.{holdsOf, highestOf, heldAfter}
 use Rattle.marks.proofs.MaskLaws.{marked-none, marked-low, marked-step}
-use Rattle.marks.proofs.SetLaws.{marked-or}
+use Rattle.marks.proofs.SetLaws.{marked-and, marked-or, marked-not, set-lt}
+use Rattle.marks.proofs.FirstLaws.{among-at}
 use Rattle.marks.proofs.AfterLaws.{after-at}
 use Rattle.downstream.specs.State.{offsetAt}
 use Rattle.judging.specs.Complaints.{complains, complaintsAfter}
 use Rattle.words.specs.Taken.{wordAt}
-use Rattle.steps.specs.Columns.{heardAfter}
+use Rattle.steps.specs.Columns.{openAt, heardAfter, changedAt}
 use Rattle.steps.proofs.EntryLaws.{same-list}
-
--- ---- a set by what the report holds and what it complains of
-module _ (set i : ℕ) (holds complained : Bool) where
-  pub set-out : (r : ℕ) → holds ≡ true → r ≡ unmarkOf set i → r ≡ cond holds (unmarkOf set i) (cond complained (markOf set i) set)
-  set-out r t e = simp t e
-
-  pub set-in : (r : ℕ) → holds ≡ false → complained ≡ true → r ≡ markOf set i → r ≡ cond holds (unmarkOf set i) (cond complained (markOf set i) set)
-  set-in r f t e = simp (f, t) e
-
-  pub set-stays : holds ≡ false → complained ≡ false → set ≡ cond holds (unmarkOf set i) (cond complained (markOf set i) set)
-  set-stays f g = simp (f, g)
 
 -- a test that is made a number
 pub missing-told : (p highest below less : ℕ) (t : Bool) → less ≡ highest - 1 → below ≡ heldAfter p less 0 → bitOr below (boolByte t) ≡ bitOr (heldAfter p (highest - 1) 0) (cond t 1 0)
@@ -86,10 +77,62 @@ module _ (c mask : ℕ) (again : Bool) (p o : ℕ) (l : o < 64) where
   bits-told set i = rw (after-at p c mask o l, missing-at) (elim (bool-cases (holdsOf c mask k)) [ inl t ↦ simp t | inr t ↦ simp t ])
 
 -- ---- the whole column
-pub heard-told : (ws : List ℕ) (i c mask : ℕ) (again : Bool) (p n highest held missing : ℕ) (l : List ℕ) → highest ≡ highestOf c mask → held ≡ heldAfter p c mask
-    → missing ≡ bitOr (heldAfter p (highest - 1) 0) (cond (again && eqb c p) 1 0)
-    → l ≡ listBelow 64 (λ j. cond (ltb (offsetAt p j) n) (cond (isMarked held (offsetAt p j)) (unmarkOf (wordAt ws (393 + j)) i) (cond (isMarked missing (offsetAt p j)) (markOf (wordAt ws (393 + j)) i) (wordAt ws (393 + j)))) 0)
-    → l ≡ heardAfter ws i c mask again p n
-unfolding heardAfter
-heard-told ws i c mask again p n highest held missing l eh ed em e =
-    e ∙ rw (ed, em, eh) (same-list (λ j. cond (ltb (offsetAt p j) n) (cond (isMarked (heldAfter p c mask) (offsetAt p j)) (unmarkOf (wordAt ws (393 + j)) i) (cond (isMarked (bitOr (heldAfter p (highestOf c mask - 1) 0) (cond (again && eqb c p) 1 0)) (offsetAt p j)) (markOf (wordAt ws (393 + j)) i) (wordAt ws (393 + j)))) 0) (λ j. cond (ltb (offsetAt p j) n) (complaintsAfter i c mask again p (p + 1 + offsetAt p j) (wordAt ws (393 + j))) 0) 0 (λ j m. ap (λ (x : ℕ). cond (ltb (offsetAt p j) n) x 0) (bits-told c mask again p (offsetAt p j) (omega arith) (wordAt ws (393 + j)) i)))
+module _ (ws : List ℕ) (i c mask : ℕ) (again : Bool) (p n : ℕ) where
+  abbrev held : ℕ
+  held = heldAfter p c mask
+
+  abbrev lacked : ℕ
+  lacked = bitOr (heldAfter p (highestOf c mask - 1) 0) (cond (again && eqb c p) 1 0)
+
+  abbrev gains : ℕ
+  gains = amongOf held 0 n
+
+  abbrev lacks : ℕ
+  lacks = amongOf (bitAnd lacked (18446744073709551615 - held)) 0 n
+
+  held-lt : held < 2 ^ 64
+  unfolding heldAfter
+  held-lt = set-lt (λ o. holdsOf c mask (p + 1 + o)) 64
+
+  gains-at : (o : ℕ) → o < 64 → isMarked gains o ≡ (isMarked held o && ltb o n && true)
+  gains-at o l = among-at held 0 n o l ∙ simp (le-ltb o 0 (omega arith))
+
+  lacks-at : (o : ℕ) → o < 64 → isMarked lacks o ≡ ((isMarked lacked o && not (isMarked held o)) && ltb o n && true)
+  lacks-at o l = among-at (bitAnd lacked (18446744073709551615 - held)) 0 n o l ∙ simp (le-ltb o 0 (omega arith), marked-and lacked (18446744073709551615 - held) o, marked-not 64 held o held-lt l)
+
+  one-place : (h m o : Bool) (w : ℕ)
+      → cond ((m && not h) && o && true) (markOf (cond (h && o && true) (unmarkOf (cond o w 0) i) (cond o w 0)) i) (cond (h && o && true) (unmarkOf (cond o w 0) i) (cond o w 0))
+      ≡ cond o (cond h (unmarkOf w i) (cond m (markOf w i) w)) 0
+  one-place true true true w = refl
+  one-place true true false w = refl
+  one-place true false true w = refl
+  one-place true false false w = refl
+  one-place false true true w = refl
+  one-place false true false w = refl
+  one-place false false true w = refl
+  one-place false false false w = refl
+
+  open-place : (j : ℕ) → j < 64 → getD (openAt ws 393 p n) j 0 ≡ cond (ltb (offsetAt p j) n) (wordAt ws (393 + j)) 0
+  unfolding openAt
+  open-place j m = list-at (λ x. cond (ltb (offsetAt p x) n) (wordAt ws (393 + x)) 0) 0 64 j m
+
+  changed-place : (f : ℕ → ℕ) (messages : ℕ) (l : List ℕ) (j : ℕ) → j < 64 → getD (changedAt f messages p l) j 0 ≡ cond (isMarked messages (offsetAt p j)) (f (getD l j 0)) (getD l j 0)
+  unfolding changedAt
+  changed-place f messages l j m = list-at (λ x. cond (isMarked messages (offsetAt p x)) (f (getD l x 0)) (getD l x 0)) 0 64 j m
+
+  abbrev out : List ℕ
+  out = changedAt (λ set. unmarkOf set i) gains p (openAt ws 393 p n)
+
+  out-place : (j : ℕ) → j < 64 → getD out j 0 ≡ cond (isMarked held (offsetAt p j) && ltb (offsetAt p j) n && true) (unmarkOf (cond (ltb (offsetAt p j) n) (wordAt ws (393 + j)) 0) i) (cond (ltb (offsetAt p j) n) (wordAt ws (393 + j)) 0)
+  out-place j m = changed-place (λ set. unmarkOf set i) gains (openAt ws 393 p n) j m ∙ rw (gains-at (offsetAt p j) (omega arith), open-place j m) refl
+
+  both : changedAt (λ set. markOf set i) lacks p out ≡ heardAfter ws i c mask again p n
+  unfolding changedAt heardAfter
+  both = same-list (λ j. cond (isMarked lacks (offsetAt p j)) (markOf (getD out j 0) i) (getD out j 0)) (λ j. cond (ltb (offsetAt p j) n) (complaintsAfter i c mask again p (p + 1 + offsetAt p j) (wordAt ws (393 + j))) 0) 0
+      (λ j m. rw (out-place j m, lacks-at (offsetAt p j) (omega arith)) (one-place (isMarked held (offsetAt p j)) (isMarked lacked (offsetAt p j)) (ltb (offsetAt p j) n) (wordAt ws (393 + j)))
+      ∙ ap (λ (x : ℕ). cond (ltb (offsetAt p j) n) x 0) (bits-told c mask again p (offsetAt p j) (omega arith) (wordAt ws (393 + j)) i))
+
+pub heard-told : (ws : List ℕ) (i c mask : ℕ) (again : Bool) (p n highest held missing gains lacks : ℕ) (sets one two : List ℕ) → highest ≡ highestOf c mask → held ≡ heldAfter p c mask
+    → missing ≡ bitOr (heldAfter p (highest - 1) 0) (cond (again && eqb c p) 1 0) → gains ≡ amongOf held 0 n → lacks ≡ amongOf (bitAnd missing (18446744073709551615 - held)) 0 n
+    → sets ≡ openAt ws 393 p n → one ≡ changedAt (λ set. unmarkOf set i) gains p sets → two ≡ changedAt (λ set. markOf set i) lacks p one → two ≡ heardAfter ws i c mask again p n
+heard-told ws i c mask again p n highest held missing gains lacks sets one two eh ed em eg el es e f = f ∙ rw (e, es, el, eg, em, ed, eh) (both ws i c mask again p n)

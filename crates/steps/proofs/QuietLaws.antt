@@ -10,7 +10,7 @@ use lib.Dec.{leb, ltb, eqb}
 use lib.ListN.{length, getD}
 use borrow.Author.Tests.{lt-ltb, le-ltb, le-leb, lt-leb, eqb-true, not-true}
 use Rattle.basics.proofs.BoolLaws.{bool-cases, or-cases, and-left, and-right, and-not-left, and-not-right, no-both}
-use Rattle.basics.proofs.SumLaws.{sum-zero, all-at, list-at}
+use Rattle.basics.proofs.SumLaws.{sum-zero, list-at}
 use Rattle.marks.specs.Masks.{isMarked, unmarkOf, withoutMark, reachOf, reachIn}
 use Rattle.marks.specs.Held.{holdsOf, highestOf}
 use Rattle.marks.proofs.MaskLaws.{marked-none}
@@ -18,9 +18,7 @@ use Rattle.marks.proofs.SetLaws.{set-none}
 use Rattle.shares.specs.Shares.{shareOf}
 use Rattle.downstream.specs.declared.state.Entry.{Entry}
 use Rattle.downstream.specs.declared.state.Downstream.{Downstream}
-use Rattle.downstream.specs.State.{noEntry, offsetAt, placeAfter, numbersOf, masksOf, isQuacked}
-use Rattle.downstream.specs.Formed.{entryKept, entriesKept}
-use Rattle.downstream.proofs.FormedLaws.{kept-entries, entry-closed}
+use Rattle.downstream.specs.State.{noEntry, offsetAt, placeAfter, isQuacked}
 use Rattle.judging.specs.declared.complaints.Hearing.{Hearing}
 use Rattle.judging.specs.Complaints.{entriesAfter, complainedEntry, complains, complaintsAfter}
 use Rattle.judging.specs.Verdicts.{isDue, dueAt, dueOf}
@@ -32,7 +30,7 @@ use Rattle.words.proofs.FitLaws.{none-at}
 use Rattle.steps.specs.Stored.{withReport}
 use Rattle.steps.specs.Stepping.{Stepping, takenIn, stepIn}
 use Rattle.steps.proofs.EntryLaws.{same-list}
-use Rattle.steps.proofs.StepLaws.{withEntries, after, entries-are, stepped, entries-stay, step-none, step-none-out}
+use Rattle.steps.proofs.StepLaws.{withEntries, after, closed-count, entries-are, stepped, entries-stay, step-none, step-none-out}
 
 -- ---- a set that is empty stays so
 unmark-none : (i : ℕ) → unmarkOf 0 i ≡ 0
@@ -107,21 +105,12 @@ module _ (ws : List ℕ) (h : Hearing) (p : ℕ) (k : Stepping ws h p) (b : Bool
   empty-entry j a b = λ i. record { count = sym a i; complaints = sym b i }
 
   -- nothing is collected: what is closed was so before
-  closed-before : p ≡ wordAt ws 136 → (j : ℕ) → j < 64 → s - p ≤ offsetAt p j → noEntry ≡ entryIn ws j
-  unfolding windowIn entriesKept entriesIn
-  closed-before point-stays j l m =
-      let o : ℕ = offsetAt p j in
-      let e : Entry = entryIn ws j in
-      let at : getD (entriesIn ws) (placeAfter (wordAt ws 136) o) noEntry ≡ e = rw (← point-stays, place-offset p j l) (list-at (entryIn ws) noEntry 64 j l) in
-      let kept = all-at (λ x. entryKept (before .cluster .members) (numbersOf (before .reports)) (masksOf (before .reports)) s (before .point + 1 + x) (getD (before .entries) (placeAfter (before .point) x) noEntry)) 64
-      (kept-entries before s (k .accepting .kept)) o (omega arith) in
-      let y : (eqb (e .count) 0 && eqb (e .complaints) 0) ≡ true =
-      entry-closed (before .cluster .members) (numbersOf (before .reports)) (masksOf (before .reports)) s (wordAt ws 136 + 1 + o) e (omega (arith, point-stays)) ∙ rw at at kept in
-      empty-entry j (eqb-true (e .count) 0 (and-left (eqb (e .count) 0) (eqb (e .complaints) 0) y)) (no-set j l)
+  closed-stays : p ≡ wordAt ws 136 → (j : ℕ) → j < 64 → s - p ≤ offsetAt p j → noEntry ≡ entryIn ws j
+  closed-stays stays j l m = empty-entry j (eqb-true (wordAt ws (329 + j)) 0 (rw (place-offset p j l) at (closed-count ws h p k stays (offsetAt p j) (omega arith) m))) (no-set j l)
 
   closed-entry : (j : ℕ) → j < 64 → s - p ≤ offsetAt p j → noEntry ≡ entryIn ws j
   closed-entry j l m = elim (or-cases (eqb p (wordAt ws 136)) (noneAbove ws 329 64 0) none-emptied) [
-    | inl t ↦ closed-before (eqb-true p (wordAt ws 136) t) j l m
+    | inl t ↦ closed-stays (eqb-true p (wordAt ws 136) t) j l m
     | inr t ↦ empty-entry j (omega (arith, none-at ws 329 64 0 t j l)) (no-set j l)
   ]
 

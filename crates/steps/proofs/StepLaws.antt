@@ -1,13 +1,16 @@
 -- Where an accepted report is taken in the words: its columns are the state's. Assumes nothing.
 use mathlib.Core.Path.{_≡_, refl, ap, sym, _∙_}
-use mathlib.Core.Bool.{true, false, cond}
+use mathlib.Core.Bool.{true, false, cond, _&&_, _||_}
 use mathlib.Core.List.{List, _++_, append-assoc}
 use Prim.Native.Nat.{ℕ, _+_, _-_, _/_, _≤_, _<_}
-use lib.ListN.{length, getD}
+use native.Mathlib.Decide.{decLt}
 use native.Mathlib.Omega.{arith}
+use lib.Dec.{ltb, eqb}
 use lib.ListN.{length, getD, set, take, drop, length-append}
 use lib.Seq.{take-at}
-use borrow.Author.Tests.{le-ltb}
+use borrow.Author.Tests.{lt-ltb, le-ltb}
+use Rattle.basics.proofs.BoolLaws.{and-left, and-right, or-left, or-right}
+use Rattle.basics.proofs.SumLaws.{all-at, all-of, list-at}
 use Rattle.marks.specs.Masks.{isMarked, setBelow}
 use Rattle.marks.specs.Held.{highestOf}
 use Rattle.marks.proofs.MaskLaws.{marked-none}
@@ -16,6 +19,8 @@ use Rattle.downstream.specs.declared.state.Cluster.{Cluster}
 use Rattle.downstream.specs.declared.state.Entry.{Entry}
 use Rattle.downstream.specs.declared.state.Downstream.{Downstream}
 use Rattle.downstream.specs.State.{noEntry, offsetAt, placeAfter, reportAt, numbersOf, masksOf, countsOf, complaintsOf}
+use Rattle.downstream.specs.Formed.{entryKept, entriesKept}
+use Rattle.downstream.proofs.FormedLaws.{kept-entries, entry-closed}
 use Rattle.judging.specs.declared.complaints.Hearing.{Hearing}
 use Rattle.judging.specs.Complaints.{entriesAfter, complainedEntry, isAgain, takenOf, Taking}
 use Rattle.judging.specs.Verdicts.{isDue, dueAt, dueOf, raisedEntry, judgedOf, Judging}
@@ -29,7 +34,8 @@ use Rattle.window.specs.Answers.{withDownstream, stepOf, stepOut}
 use Rattle.window.proofs.ReportLaws.{step-writing}
 use Rattle.verdicts.specs.Written.{verdictsOf, Writing}
 use Rattle.verdicts.proofs.WriteLaws.{none-count, none-put, counts-low, verdicts-long}
-use Rattle.words.specs.Taken.{wordAt, fits, columnAt, clusterAt, reportsIn, entriesIn, windowIn}
+use Rattle.words.specs.Taken.{wordAt, fits, columnAt, clusterAt, reportsIn, entryIn, entriesIn, windowIn}
+use Rattle.words.specs.Entries.{closedZero}
 use Rattle.words.specs.Put.{reportWords, entryWords, wordsOf}
 use Rattle.words.proofs.JudgeLaws.{numbers-column, masks-column}
 use Rattle.words.proofs.PutLaws.{length-reports}
@@ -99,6 +105,33 @@ module _ (ws : List ℕ) (h : Hearing) (p : ℕ) (k : Stepping ws h p) where
 
   pub step-judging : Judging taken sent
   step-judging = may-judge before sent (h .member) (h .number) (h .mask) (k .accepting) (places-in ws)
+
+  -- ---- an entry that is closed where nothing is collected was so before
+  closed-before : p ≡ wordAt ws 136 → (o : ℕ) → o < 64 → wordAt ws 135 - p ≤ o → (eqb (wordAt ws (329 + placeAfter p o)) 0 && eqb (wordAt ws (393 + placeAfter p o)) 0) ≡ true
+  unfolding windowIn entriesKept entriesIn
+  closed-before stays o l m =
+      let j : ℕ = placeAfter p o in
+      let at : getD (entriesIn ws) (placeAfter (wordAt ws 136) o) noEntry ≡ entryIn ws j = rw (← stays) (list-at (entryIn ws) noEntry 64 j (omega arith)) in
+      let kept = all-at (λ x. entryKept (before .cluster .members) (numbersOf (before .reports)) (masksOf (before .reports)) sent (before .point + 1 + x) (getD (before .entries) (placeAfter (before .point) x) noEntry)) 64
+      (kept-entries before sent (k .accepting .kept)) o l in
+      entry-closed (before .cluster .members) (numbersOf (before .reports)) (masksOf (before .reports)) sent (wordAt ws 136 + 1 + o) (entryIn ws j) (omega (arith, stays)) ∙ rw at at kept
+
+  pub closed-count : p ≡ wordAt ws 136 → (o : ℕ) → o < 64 → wordAt ws 135 - p ≤ o → eqb (wordAt ws (329 + placeAfter p o)) 0 ≡ true
+  closed-count stays o l m = and-left (eqb (wordAt ws (329 + placeAfter p o)) 0) (eqb (wordAt ws (393 + placeAfter p o)) 0) (closed-before stays o l m)
+
+  pub step-closed-counts : p ≡ wordAt ws 136 → closedZero ws 329 p (wordAt ws 135 - p) ≡ true
+  unfolding closedZero
+  step-closed-counts stays = all-of (λ o. ltb o (wordAt ws 135 - p) || eqb (wordAt ws (329 + placeAfter p o)) 0) 64 (λ o l. elim (decLt o (wordAt ws 135 - p)) [
+    | yes m ↦ or-left (ltb o (wordAt ws 135 - p)) (eqb (wordAt ws (329 + placeAfter p o)) 0) (lt-ltb o (wordAt ws 135 - p) m)
+    | no m ↦ or-right (ltb o (wordAt ws 135 - p)) (eqb (wordAt ws (329 + placeAfter p o)) 0) (closed-count stays o l (omega arith))
+  ])
+
+  pub step-closed-sets : p ≡ wordAt ws 136 → closedZero ws 393 p (wordAt ws 135 - p) ≡ true
+  unfolding closedZero
+  step-closed-sets stays = all-of (λ o. ltb o (wordAt ws 135 - p) || eqb (wordAt ws (393 + placeAfter p o)) 0) 64 (λ o l. elim (decLt o (wordAt ws 135 - p)) [
+    | yes m ↦ or-left (ltb o (wordAt ws 135 - p)) (eqb (wordAt ws (393 + placeAfter p o)) 0) (lt-ltb o (wordAt ws 135 - p) m)
+    | no m ↦ or-right (ltb o (wordAt ws 135 - p)) (eqb (wordAt ws (393 + placeAfter p o)) 0) (and-right (eqb (wordAt ws (329 + placeAfter p o)) 0) (eqb (wordAt ws (393 + placeAfter p o)) 0) (closed-before stays o l (omega arith)))
+  ])
 
   -- for an output that has just the room
   writing : Writing (windowIn ws .sending) (windowIn ws .quantum) taken sent (dueOf taken sent)

@@ -61,12 +61,25 @@ pub(crate) fn point_after(words: &[u64; 457], i: u32, c: u64) -> u64
     point_risen(words, i, c)
 }
 
-// Whether the report changes no entry: the member complains of nothing, nor does anybody else, and no entry is emptied, either because
-// nothing is collected or because nothing was ever sent again.
+// Whether no entry is emptied, either because nothing is collected or because nothing was ever sent again.
+fn none_emptied(words: &[u64; 457], p: u64) -> bool
+    ensures { λ r. ⌜ r ≡ (eqb p (wordAt (now (words .entry)) 136) || noneAbove (now (words .entry)) 329 64 0) ⌝ }
+{
+    if p == words[136] {
+        return true;
+    }
+    words::all_zero(words, 329, 64)
+}
+
+// Whether the report changes no entry: the member complains of nothing, nor does anybody else, and none is emptied.
 pub(crate) fn is_quiet(words: &[u64; 457], h: Hearing, p: u64) -> bool
     ensures { λ r. ⌜ r ≡ ((eqb p (wordAt (now (words .entry)) 136) || noneAbove (now (words .entry)) 329 64 0) && eqb (h .mask) 0 && not (h .again && eqb (h .number) p) && noneAbove (now (words .entry)) 393 64 0) ⌝ }
 {
-    let unsent = words::all_zero(words, 329, 64);
+    let content = (h.mask == 0) & !(h.again & (h.number == p));
+    if !content {
+        return false;
+    }
+    let kept = none_emptied(words, p);
     let silent = words::all_zero(words, 393, 64);
-    ((p == words[136]) | unsent) & (h.mask == 0) & !(h.again & (h.number == p)) & silent
+    kept & silent
 }

@@ -1,7 +1,6 @@
 // The steps of an accepted report.
-use crate::columns::counts_after;
-use crate::columns::emptied_sets;
-use crate::columns::raised_counts;
+use crate::changing::raise;
+use crate::columns::open_at;
 use crate::deciding::due_after;
 use crate::deciding::put_verdicts;
 use crate::heard::heard_after;
@@ -37,8 +36,9 @@ fn put_lost(
     ensures { λ r. ⌜ (r ≡ stepIn (now (words .entry)) h .verdicts) × (now (words .exit) ≡ wordsOf (withDownstream (windowIn (now (words .entry))) (stepIn (now (words .entry)) h .downstream))) × (now (out .exit) ≡ stepOut (windowIn (now (words .entry)) .sending) (windowIn (now (words .entry)) .quantum) (windowIn (now (words .entry)) .downstream) (windowIn (now (words .entry)) .sent) (h .member) (h .number) (h .mask) (now (out .entry))) ⌝ }
 {
     let verdicts = put_verdicts(words, due, counts, p, out);
-    let raised = raised_counts(due, p, counts);
-    let emptied = emptied_sets(due, p, sets);
+    let mut raised = *counts;
+    let mut emptied = *sets;
+    raise(&mut raised, &mut emptied, due, p);
     put_step(h.member, h.number, h.mask, p, &raised, &emptied, words);
     verdicts
 }
@@ -49,7 +49,7 @@ fn judge_open(words: &mut [u64; 457], h: Hearing, p: u64, out: &mut [u8]) -> u32
     ensures { λ r. ⌜ (r ≡ stepIn (now (words .entry)) h .verdicts) × (now (words .exit) ≡ wordsOf (withDownstream (windowIn (now (words .entry))) (stepIn (now (words .entry)) h .downstream))) × (now (out .exit) ≡ stepOut (windowIn (now (words .entry)) .sending) (windowIn (now (words .entry)) .quantum) (windowIn (now (words .entry)) .downstream) (windowIn (now (words .entry)) .sent) (h .member) (h .number) (h .mask) (now (out .entry))) ⌝ }
 {
     let n = words[135] - p;
-    let counts = counts_after(words, p, n);
+    let counts = open_at(words, 329, p, n);
     let sets = heard_after(words, h, p, n);
     let due = due_after(words, h, &counts, &sets, p);
     if due == 0 {

@@ -1,5 +1,5 @@
 -- Where nothing is due the columns stay as the report left them.
-use Rattle.steps.proofs.StepLaws.{step-member, step-fit, step-highest, step-order, step-words, step-counts-stay, step-sets-stay, step-none, step-none-out}
+use Rattle.steps.proofs.StepLaws.{step-member, step-fit, step-highest, step-low, step-order, step-closed-counts, step-closed-sets, step-words, step-counts-stay, step-sets-stay, step-none, step-none-out}
 use borrow.Author.Needs.{needs}
 use Rattle.steps.proofs.stepping.judge_open.Statement.{statement}
 use Rattle.steps.proofs.stepping.judge_open.Tie as tie
@@ -10,11 +10,11 @@ element-copy-out-n c = search needs
 sub-n : tie.Need-sub-n
 sub-n c = search (step-order, needs)
 
-counts-after-requires : tie.Need-counts-after-requires
-counts-after-requires c κs = search needs
+open-at-requires : tie.Need-open-at-requires
+open-at-requires c κs = (search needs, search (step-closed-counts, needs))
 
 heard-after-requires : tie.Need-heard-after-requires
-heard-after-requires c κs = search (step-highest, needs)
+heard-after-requires c κs = (search (step-highest, needs), search (step-low, needs), search (step-closed-sets, needs))
 
 due-after-requires : tie.Need-due-after-requires
 due-after-requires c κs = search needs
@@ -40,7 +40,7 @@ judge-open-spec =
     (tie.spec
     element-copy-out-n
     sub-n
-    counts-after-requires
+    open-at-requires
     heard-after-requires
     due-after-requires
     put-step-requires

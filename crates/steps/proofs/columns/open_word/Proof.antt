@@ -1,11 +1,14 @@
 -- Open or not, by the offset of the place.
 use Rattle.steps.proofs.ColumnLaws.{open-word, closed-word}
 use borrow.Author.Needs.{needs}
-use Rattle.steps.proofs.columns.count_after.Statement.{statement}
-use Rattle.steps.proofs.columns.count_after.Tie as tie
+use Rattle.steps.proofs.columns.open_word.Statement.{statement}
+use Rattle.steps.proofs.columns.open_word.Tie as tie
 
-offset-at-requires : tie.Need-offset-at-requires
-offset-at-requires c κs = search needs
+add-offset : tie.Need-add-offset
+add-offset c = search needs
+
+sub-offset : tie.Need-sub-offset
+sub-offset c = search needs
 
 add-result : tie.Need-add-result
 add-result c = search needs
@@ -22,7 +25,14 @@ returns c = search (open-word, needs)
 returns-2 : tie.Need-returns-2
 returns-2 c = search (closed-word, needs)
 
-pub count-after-spec : {M : Type 1} → statement M
-count-after-spec =
+pub open-word-spec : {M : Type 1} → statement M
+open-word-spec =
     tie.close
-    (tie.spec offset-at-requires add-result mul-result element-copy-out-result returns returns-2)
+    (tie.spec
+    add-offset
+    sub-offset
+    add-result
+    mul-result
+    element-copy-out-result
+    returns
+    returns-2)
