@@ -1,19 +1,20 @@
 -- Which messages enough members complain of, from what the code knows where it answers. Assumes nothing.
 use mathlib.Core.Path.{_≡_, refl, ap, sym, _∙_}
-use mathlib.Core.Bool.{true, false, cond, _&&_}
+use mathlib.Core.Bool.{Bool, true, false, cond, _&&_}
 use mathlib.Core.List.{List}
-use Prim.Native.Nat.{ℕ, zero, suc, _+_, _≤_, _<_}
+use Prim.Native.Nat.{ℕ, zero, suc, _+_, _*_, _%_, _^_, _≤_, _<_}
+use native.Mathlib.Nat.{zero-mul}
 use native.Mathlib.Decide.{decLt}
 use native.Mathlib.Numerals.{add-one}
 use native.Mathlib.Omega.{arith}
-use lib.Bits.{bitOr}
+use lib.Bits.{bitOr, or-zero-r}
+use mir.Val.{boolByte}
 use lib.Dec.{leb, ltb}
-use lib.ListN.{length, getD}
+use lib.ListN.{getD}
 use borrow.Author.Tests.{lt-leb}
 use Rattle.basics.proofs.BoolLaws.{or-left, or-right, and-not-left}
-use Rattle.basics.proofs.SumLaws.{sum-zero}
 use Rattle.marks.specs.Masks.{isMarked, markOf, setBelow}
-use Rattle.marks.proofs.MaskLaws.{marked-none}
+use Rattle.marks.proofs.MaskLaws.{mark-in}
 use Rattle.marks.proofs.SetLaws.{set-turn, marked-or}
 use Rattle.shares.specs.Shares.{shareOf}
 use Rattle.shares.proofs.ShareLaws.{share-mono}
@@ -41,14 +42,14 @@ module _ (complaints : List ℕ) where
     | no k ↦ (let z : j ≡ n = omega arith in or-right (isMarked (complainersOf complaints n) b) (isMarked (getD complaints n 0) b) (rw z at h))
   ]
 
--- a set of nobody has no share
-pub nobody : (shares : List ℕ) → 0 ≡ shareOf shares (isMarked 0)
-unfolding shareOf
-nobody shares = sym (sum-zero (λ i. cond (isMarked 0 i) (getD shares i 0) 0) (length shares) (λ i l. rw (marked-none i) refl))
-
 -- ---- the last set that was weighed
 pub weighed-same : (shares : List ℕ) (share members last : ℕ) → share ≡ shareOf shares (isMarked last) → members ≡ last → share ≡ shareOf shares (isMarked members)
 weighed-same shares share members last e f = e ∙ ap (λ (x : ℕ). shareOf shares (isMarked x)) (sym f)
+
+-- ---- a test that is made a bit
+pub bit-put : (set o : ℕ) (b : Bool) → o < 64 → bitOr set ((boolByte b * 2 ^ o) % 18446744073709551616) ≡ cond b (markOf set o) set
+bit-put set o true l = mark-in set o l
+bit-put set o false l = ap (bitOr set) (simp (zero-mul (2 ^ o))) ∙ or-zero-r set
 
 -- ---- a turn of the loop, and when none is found
 module _ (shares : List ℕ) (r : ℕ) (counts complaints : List ℕ) (p : ℕ) where

@@ -1,4 +1,5 @@
 // Judging the open messages: which verdicts are due, and what they change.
+use crate::against::Weighed;
 use crate::against::complainers;
 use crate::against::enough_among;
 use crate::lost::lost_among;
@@ -35,11 +36,16 @@ pub fn due_among(
     requires { ⌜ (length (now shares) ≤ 64) × (p ≤ 1000000000000) × (n ≤ 64) ⌝ }
     ensures { λ b. ⌜ b ≡ setBelow n (λ o. isDue (now (shares .entry)) u r (now (numbers .entry)) (now (masks .entry)) (p + 1 + o) (record { count = getD (now (counts .entry)) (placeAfter p o) 0; complaints = getD (now (complaints .entry)) (placeAfter p o) 0 })) ⌝ }
 {
-    let against = shares::share(shares, complainers(complaints));
+    let any = complainers(complaints);
+    let against = shares::share(shares, any);
     if against <= r as u64 {
         return 0;
     }
-    let enough = enough_among(shares, r, counts, complaints, p, n);
+    let weighed = Weighed {
+        members: any,
+        share: against,
+    };
+    let enough = enough_among(shares, r, counts, complaints, weighed, p, n);
     if enough == 0 {
         return 0;
     }

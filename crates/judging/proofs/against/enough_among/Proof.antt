@@ -6,7 +6,7 @@ use Rattle.marks.specs.Masks.{isMarked, setBelow}
 use Rattle.marks.proofs.SetLaws.{set-start, set-done}
 use Rattle.shares.specs.Shares.{shareOf}
 use Rattle.judging.specs.Verdicts.{enoughAgainst}
-use Rattle.judging.proofs.AgainstLaws.{nobody, enough-turn}
+use Rattle.judging.proofs.AgainstLaws.{enough-turn}
 use borrow.Author.Needs.{needs}
 use Rattle.judging.proofs.against.enough_among.Statement.{statement}
 use Rattle.judging.proofs.against.enough_among.Tie as tie
@@ -18,7 +18,7 @@ abbrev μ-loop : tie.MeasureT-loop
 μ-loop shares r counts complaints p n set₀ last₀ o₀ set last o = n - o
 
 loop-holds : tie.Need-loop-holds Inv-loop μ-loop
-loop-holds c = (search needs, search needs, search needs, search needs, search nobody, search set-start)
+loop-holds c = (search needs, search needs, search needs, search needs, search needs, search set-start)
 
 add-at : tie.Need-add-at Inv-loop μ-loop
 add-at c = search needs

@@ -1,20 +1,20 @@
--- The branch is the one of the definition.
-use Rattle.basics.proofs.BoolLaws.{branches}
+-- The test as a bit.
+use Rattle.judging.proofs.AgainstLaws.{bit-put}
 use borrow.Author.Needs.{needs}
 use Rattle.judging.proofs.against.with_enough.Statement.{statement}
 use Rattle.judging.proofs.against.with_enough.Tie as tie
 
-add-if1 : tie.Need-add-if1
-add-if1 c = search needs
+add-enough : tie.Need-add-enough
+add-enough c = search needs
 
-mark-requires : tie.Need-mark-requires
-mark-requires c κs = search needs
+cast-result : tie.Need-cast-result
+cast-result c = search needs
+
+shl-result : tie.Need-shl-result
+shl-result c = search needs
 
 returns : tie.Need-returns
-returns c = search branches
-
-returns-2 : tie.Need-returns-2
-returns-2 c = search branches
+returns c = search (bit-put, needs)
 
 pub with-enough-spec : {M : Type 1} → statement M
-with-enough-spec = tie.close (tie.spec add-if1 mark-requires returns returns-2)
+with-enough-spec = tie.close (tie.spec add-enough cast-result shl-result returns)
