@@ -10,16 +10,16 @@ use Rattle.marks.specs.Held.{highestOf}
 use Rattle.downstream.specs.declared.state.Downstream.{Downstream}
 use Rattle.downstream.specs.declared.state.Report.{Report}
 use Rattle.downstream.specs.State.{noReport, reportAt, pointFrom}
-use Rattle.downstream.proofs.FormedLaws.{kept-span, kept-point, span-limit, span-order}
+use Rattle.downstream.proofs.FormedLaws.{kept-span, kept-reports, kept-point, span-limit, span-order}
 use Rattle.judging.specs.declared.complaints.Hearing.{Hearing}
 use Rattle.judging.specs.Complaints.{isAgain, pointAfter, Taking}
 use Rattle.judging.proofs.Accepted.{may-take, number-up}
 use Rattle.window.specs.declared.state.Window.{Window}
 use Rattle.window.specs.Reporting.{Reportable}
 use Rattle.window.specs.Answers.{withDownstream, stepOf, stepOut}
-use Rattle.words.specs.Taken.{wordAt, fits, columnAt, clusterAt, reportIn, reportsIn, windowIn}
+use Rattle.words.specs.Taken.{wordAt, noneAbove, fits, columnAt, clusterAt, reportIn, reportsIn, windowIn}
 use Rattle.words.specs.Put.{wordsOf}
-use Rattle.words.proofs.JudgeLaws.{numbers-column}
+use Rattle.words.proofs.JudgeLaws.{numbers-column, numbers-low}
 use Rattle.steps.specs.Stepping.{Stepping, stepIn}
 use Rattle.steps.proofs.StoreLaws.{places-in, numbers-set}
 
@@ -46,6 +46,10 @@ module _ (ws : List ℕ) (i c mask room : ℕ) (a : Reportable (windowIn ws) i c
   pub ready-point : wordAt ws 136 ≤ 1000000000000
   unfolding windowIn
   ready-point = let k = kept-span d (w .sent) (a .accepting .kept) in omega (arith, span-limit (d .point) (w .sent) k, span-order (d .point) (w .sent) k)
+
+  pub ready-numbers : noneAbove ws 137 (wordAt ws 67) 1000000000000 ≡ true
+  unfolding windowIn clusterAt
+  ready-numbers = numbers-low ws (wordAt ws 67) (wordAt ws 135) (kept-reports d (w .sent) (a .accepting .kept)) (wordAt ws 67) ready-few (span-limit (d .point) (w .sent) (kept-span d (w .sent) (a .accepting .kept)))
 
   -- the point before is that of the numbers as they are, and none of them falls
   pub ready-before : wordAt ws 136 ≡ pointFrom (clusterAt ws 67) (columnAt ws 137)

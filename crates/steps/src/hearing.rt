@@ -43,7 +43,7 @@ fn point_risen(words: &[u64; 457], i: u32, c: u64) -> u64
 // The point that the members' numbers give with that of member i, which has not fallen. It rises only where this member comes to those
 // above the former point, and has with them share u + 1 or more.
 pub(crate) fn point_after(words: &[u64; 457], i: u32, c: u64) -> u64
-    requires { ⌜ (i < 64) × (fits (now words) ≡ true) × (wordAt (now words) 67 ≤ 64) × (wordAt (now words) 136 ≤ 1000000000000) × (wordAt (now words) 136 ≡ pointFrom (clusterAt (now words) 67) (columnAt (now words) 137)) × (wordAt (now words) (137 + i) ≤ c) ⌝ }
+    requires { ⌜ (i < 64) × (fits (now words) ≡ true) × (wordAt (now words) 67 ≤ 64) × (wordAt (now words) 136 ≤ 1000000000000) × (noneAbove (now words) 137 (wordAt (now words) 67) 1000000000000 ≡ true) × (wordAt (now words) 136 ≡ pointFrom (clusterAt (now words) 67) (columnAt (now words) 137)) × (wordAt (now words) (137 + i) ≤ c) ⌝ }
     ensures { λ r. ⌜ r ≡ pointFrom (clusterAt (now (words .entry)) 67) (set (columnAt (now (words .entry)) 137) i c) ⌝ }
 {
     let p = words[136];

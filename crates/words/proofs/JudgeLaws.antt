@@ -1,24 +1,29 @@
 -- Judging words where they lie, from what the code knows where it answers. Assumes nothing.
 use mathlib.Core.Path.{_≡_, refl, sym, _∙_}
-use mathlib.Core.Bool.{Bool, true, false, _&&_}
+use mathlib.Core.Bool.{Bool, true, false, not, _&&_}
 use mathlib.Core.List.{List}
+use mathlib.Core.Logic.{inl, inr}
 use Prim.Native.Nat.{ℕ, _+_, _≤_, _<_}
 use native.Mathlib.Omega.{arith}
 use mir.Val.{Fits}
 use mir.Syntax.{w32}
-use lib.Dec.{leb, eqb}
+use lib.Dec.{leb, ltb, eqb}
 use lib.ListN.{take}
 use borrow.Author.Needs.{needs}
-use borrow.Author.Tests.{lt-leb, not-true, not-false}
+use borrow.Author.Tests.{le-leb, lt-leb, leb-true, eqb-true, not-true, not-false}
 use Rattle.basics.specs.Sums.{listBelow}
 use Rattle.basics.specs.Ranges.{isQuantum}
-use Rattle.basics.proofs.BoolLaws.{and-both, and-not-left, and-not-right, either}
+use Rattle.basics.proofs.BoolLaws.{bool-cases, and-both, and-left, and-right, and-not-left, and-not-right, either}
+use Rattle.basics.proofs.SumLaws.{all-at, all-of, list-at}
+use Rattle.marks.specs.Masks.{isMarked, reachOf}
+use Rattle.marks.specs.Held.{highestOf}
+use Rattle.marks.specs.Held as marks
 use Rattle.shares.specs.Point.{pointOf}
-use Rattle.downstream.specs.State.{numbersOf, masksOf}
-use Rattle.downstream.specs.Formed.{spanKept, clusterKept, reportsKept, entriesKept, downstreamKept}
+use Rattle.downstream.specs.State.{noReport, reportAt, numbersOf, masksOf}
+use Rattle.downstream.specs.Formed.{spanKept, clusterKept, reportKept, reportsKept, entriesKept, downstreamKept}
 use Rattle.downstream.proofs.FormedLaws.{span-limit, span-order, span-width, cluster-few, down-span, down-cluster, down-judged}
 use Rattle.window.specs.Formed.{wellFormed}
-use Rattle.words.specs.Taken.{wordAt, noneAbove, fits, columnAt, clusterAt, reportsIn, entriesIn, windowIn, formedIn}
+use Rattle.words.specs.Taken.{wordAt, noneAbove, fits, columnAt, clusterAt, reportIn, reportsIn, entriesIn, windowIn, formedIn}
 use Rattle.words.proofs.PointLaws.{point-in-words}
 use Rattle.words.proofs.FormedFits.{kept-fits, shares-small, u-small}
 
@@ -84,7 +89,36 @@ module _ (ws : List ℕ) (h : clusterKept (clusterAt ws 67) ≡ true) where
       down-judged (windowIn ws .downstream) (wordAt ws 135) true (sym k) refl true (sym h) refl (columnAt ws 137) (columnAt ws 201) reports point entries (numbers-column ws) (masks-column ws) er
       (ep ∙ point-in-words ws (wordAt ws 136)) eo
 
-pub ruleset words-kept = (words-order, words-width, words-point, words-few, words-members, words-narrow, words-u, words-judged, needs)
+  pub words-untold : spanKept (wordAt ws 136) (wordAt ws 135) ≡ true → (reports : Bool) → reports ≡ reportsKept (wordAt ws 67) (reportsIn ws) (wordAt ws 135) → reports ≡ false
+      → false ≡ downstreamKept (windowIn ws .downstream) (windowIn ws .sent)
+  words-untold k reports er f = sym (rw f refl) ∙ words-judged k reports _ _ er refl refl
+
+  pub words-told : spanKept (wordAt ws 136) (wordAt ws 135) ≡ true → (reports point entries : Bool) → reports ≡ reportsKept (wordAt ws 67) (reportsIn ws) (wordAt ws 135) → reports ≡ true
+      → point ≡ eqb (wordAt ws 136) (pointOf (take (wordAt ws 67) (columnAt ws 70)) (columnAt ws 137) (wordAt ws 68 + 1))
+      → entries ≡ entriesKept (wordAt ws 67) (columnAt ws 137) (columnAt ws 201) (entriesIn ws) (wordAt ws 136) (wordAt ws 135)
+      → (point && entries) ≡ downstreamKept (windowIn ws .downstream) (windowIn ws .sent)
+  words-told k reports point entries er t ep eo = sym (rw t refl) ∙ words-judged k reports point entries er ep eo
+
+-- a report that is kept has a number up to S
+module _ (ws : List ℕ) (n s : ℕ) (h : reportsKept n (reportsIn ws) s ≡ true) where
+  number-low : (i : ℕ) → i < 64 → wordAt ws (137 + i) ≤ s
+  unfolding reportsKept reportsIn marks.noneAbove highestOf
+  number-low i l =
+      let kept : reportKept n s i (reportIn ws i) ≡ true = rw (list-at (reportIn ws) noReport 64 i l) at (all-at (λ j. reportKept n s j (reportAt (listBelow 64 (reportIn ws)) j)) 64 h i l) in
+      elim (bool-cases (reportIn ws i .heard)) [
+        | inl t ↦ omega (arith, leb-true (wordAt ws (137 + i) + reachOf (wordAt ws (201 + i))) s (and-right (ltb i n && not (isMarked (wordAt ws (201 + i)) 0)) (leb (wordAt ws (137 + i) + reachOf (wordAt ws (201 + i))) s) (simp t at kept)))
+        | inr t ↦ omega (arith, eqb-true (wordAt ws (137 + i)) 0 (and-left (eqb (wordAt ws (137 + i)) 0) (eqb (wordAt ws (201 + i)) 0) (simp t at kept)))
+      ]
+
+  pub numbers-low : (m : ℕ) → m ≤ 64 → s ≤ 1000000000000 → noneAbove ws 137 m 1000000000000 ≡ true
+  unfolding noneAbove
+  numbers-low m few l = all-of (λ i. leb (wordAt ws (137 + i)) 1000000000000) m (λ i k. le-leb (wordAt ws (137 + i)) 1000000000000 (omega (arith, number-low i (omega arith))))
+
+pub words-low : (ws : List ℕ) → clusterKept (clusterAt ws 67) ≡ true → spanKept (wordAt ws 136) (wordAt ws 135) ≡ true → (reports : Bool) → reports ≡ reportsKept (wordAt ws 67) (reportsIn ws) (wordAt ws 135)
+    → reports ≡ true → noneAbove ws 137 (wordAt ws 67) 1000000000000 ≡ true
+words-low ws c k reports er t = numbers-low ws (wordAt ws 67) (wordAt ws 135) (sym er ∙ t) (wordAt ws 67) (words-few ws c) (span-limit (wordAt ws 136) (wordAt ws 135) k)
+
+pub ruleset words-kept = (words-low, words-untold, words-told, not-true, not-false, words-order, words-width, words-point, words-few, words-members, words-narrow, words-u, needs)
 
 -- ---- the state as a whole
 module _ (ws : List ℕ) where

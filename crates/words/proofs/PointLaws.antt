@@ -1,10 +1,13 @@
 -- The point asked in the words where the numbers and shares lie. Assumes nothing.
 use mathlib.Core.Path.{_≡_, refl, ap, ap₂, sym, _∙_}
-use mathlib.Core.Bool.{cond, _&&_, _||_}
+use mathlib.Core.Bool.{Bool, true, false, cond, _&&_, _||_}
 use mathlib.Core.List.{List}
-use Prim.Native.Nat.{ℕ, _+_, _≤_, _<_}
+use Prim.Native.Nat.{ℕ, _+_, _-_, _*_, _/_, _^_, _≤_, _<_}
+use native.Mathlib.Decide.{decLe}
 use native.Mathlib.Omega.{arith}
+use lib.Bits.{bitAnd, and-mask, and-zero-r, and-le-l}
 use lib.Dec.{leb, ltb, eqb}
+use borrow.Author.Tests.{le-leb, lt-leb}
 use lib.ListN.{getD, take}
 use Rattle.basics.specs.Sums.{sumBelow}
 use Rattle.basics.proofs.SumLaws.{sum-done, sum-cong, list-at}
@@ -14,6 +17,24 @@ use Rattle.shares.proofs.PointLaws.{point-told}
 use Rattle.downstream.specs.State.{pointFrom}
 use Rattle.words.specs.Taken.{wordAt, columnAt, clusterAt}
 use Rattle.words.proofs.ClusterLaws.{shares-length, shares-at}
+
+-- ---- whether a number is reached, as bits
+pub bits-told : (number g : ℕ) → number ≤ 1000000000000 → g ≤ 1000000000001 → (number + (9223372036854775808 - g)) / 2 ^ 63 * 4294967295 ≡ cond (leb g number) 4294967295 0
+bits-told number g a b = elim (decLe g number) [
+  | yes l ↦ simp (le-leb g number l) (omega arith)
+  | no l ↦ simp (lt-leb g number (omega arith)) (omega arith)
+]
+
+-- a share of 32 bits with all of them, or with none
+masked : (share : ℕ) (t : Bool) → share ≤ 4294967295 → bitAnd share (cond t 4294967295 0) ≡ cond t share 0
+masked share true l = and-mask share 32 ∙ omega arith
+masked share false l = and-zero-r share
+
+pub share-masked : (share number bits g x y : ℕ) → share ≡ x → share ≤ 4294967295 → number ≡ y → bits ≡ cond (leb g number) 4294967295 0 → bitAnd share bits ≡ cond (leb g y) x 0
+share-masked share number bits g x y e l f q = rw (← e, ← f, q) (masked share (leb g number) l)
+
+pub share-masked-low : (share bits : ℕ) → share ≤ 4294967295 → bitAnd share bits ≤ 4294967295
+share-masked-low share bits l = omega (arith, and-le-l share bits)
 
 module _ (ws : List ℕ) where
   abbrev reachedShare : ℕ → ℕ → ℕ

@@ -33,10 +33,12 @@ fn parts_kept(words: &[u64; 457]) -> bool
     let s = words[135];
     let p = words[136];
     let n = words[67] as usize;
-    let told = reports_kept(words, n as u32, s);
+    if !reports_kept(words, n as u32, s) {
+        return false;
+    }
     let point = point_kept(words, n, p);
     let open = entries_kept(words, n, p, s);
-    told & point & open
+    point & open
 }
 
 // All that belongs to the receiving cluster.

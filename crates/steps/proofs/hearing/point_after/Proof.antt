@@ -29,7 +29,7 @@ add-reached : tie.Need-add-reached
 add-reached c = search needs
 
 reached-requires : tie.Need-reached-requires
-reached-requires c κs = (search needs, search (shares-narrow, needs))
+reached-requires c κs = (search needs, search (shares-narrow, needs), search needs, search needs)
 
 add-if3 : tie.Need-add-if3
 add-if3 c = search needs

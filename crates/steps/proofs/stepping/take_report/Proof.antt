@@ -1,5 +1,5 @@
 -- A quiet report changes itself and the point alone; any other is judged with the open messages.
-use Rattle.steps.proofs.ReadyLaws.{ready-member, ready-number, ready-few, ready-point, ready-before, ready-up, ready-stepping, heard-verdicts, heard-words, heard-out, heard-member}
+use Rattle.steps.proofs.ReadyLaws.{ready-member, ready-number, ready-few, ready-point, ready-numbers, ready-before, ready-up, ready-stepping, heard-verdicts, heard-words, heard-out, heard-member}
 use Rattle.steps.proofs.QuietLaws.{quiet-none, quiet-out, quiet-words}
 use borrow.Author.Needs.{needs}
 use Rattle.steps.proofs.stepping.take_report.Statement.{statement}
@@ -9,7 +9,7 @@ hearing-of-requires : tie.Need-hearing-of-requires
 hearing-of-requires c κs = search (ready-number, needs)
 
 point-after-requires : tie.Need-point-after-requires
-point-after-requires c κs = (search (ready-member, needs), search needs, search (ready-few, needs), search (ready-point, needs), search (ready-before, needs), search (ready-up, needs))
+point-after-requires c κs = (search (ready-member, needs), search needs, search (ready-few, needs), search (ready-point, needs), search (ready-numbers, needs), search (ready-before, needs), search (ready-up, needs))
 
 is-quiet-requires : tie.Need-is-quiet-requires
 is-quiet-requires c κs = search needs

@@ -19,14 +19,17 @@ cast-reports-kept c = search words-kept
 reports-kept-requires : tie.Need-reports-kept-requires
 reports-kept-requires c κs = (search words-kept, search needs)
 
+returns : tie.Need-returns
+returns c = search words-kept
+
 point-kept-requires : tie.Need-point-kept-requires
-point-kept-requires c κs = (search words-kept, search words-kept, search words-kept, search words-kept)
+point-kept-requires c κs = (search words-kept, search words-kept, search words-kept, search words-kept, search words-kept)
 
 entries-kept-requires : tie.Need-entries-kept-requires
 entries-kept-requires c κs = (search words-kept, search words-kept, search words-kept, search words-kept)
 
-returns : tie.Need-returns
-returns c = search words-kept
+returns-2 : tie.Need-returns-2
+returns-2 c = search words-kept
 
 pub parts-kept-spec : {M : Type 1} → statement M
 parts-kept-spec =
@@ -37,6 +40,7 @@ parts-kept-spec =
     element-copy-out-n
     cast-reports-kept
     reports-kept-requires
+    returns
     point-kept-requires
     entries-kept-requires
-    returns)
+    returns-2)
