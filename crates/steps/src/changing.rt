@@ -1,7 +1,7 @@
 // Changing a column of the entries at the places of a set of messages, bit o for message p + 1 + o. What is not in the set is not looked at.
 ghost use mathlib.Core.Path.{_≡_};
 ghost use mathlib.Core.Bool.{true};
-ghost use Prim.Native.Nat.{_+_, _≤_, _<_};
+ghost use Prim.Native.Nat.{_≤_, _<_};
 ghost use lib.ListN.{length};
 ghost use Rattle.marks.specs.Masks.{isMarked, markOf, unmarkOf};
 ghost use Rattle.steps.specs.Columns.{firstBit, changedAt, small, raisedCounts, emptiedSets};
