@@ -5,6 +5,7 @@ use mathlib.Core.List.{List}
 use Prim.Native.Nat.{ℕ, zero, suc, _+_, _-_, _%_, _≤_, _<_}
 use native.Mathlib.Decide.{decLt}
 use native.Mathlib.Omega.{arith}
+use lib.Bits.{bitOr}
 use lib.Dec.{leb, ltb, eqb}
 use borrow.Author.Needs.{needs}
 use borrow.Author.Tests.{le-leb, lt-leb, leb-true, lt-ltb, le-ltb, eq-eqb, eqb-true, not-true, not-false}
@@ -21,7 +22,7 @@ use Rattle.words.specs.Taken.{wordAt, noneAbove, columnAt, entryIn, entr
 use Rattle.words.specs.Entries.{closedZero, countAfter, countsKept, setAfter, setsTold, setsKept}
 use Rattle.words.specs.Straight.{anyIn}
 use Rattle.words.proofs.FitLaws.{none-at}
-use Rattle.words.proofs.StraightLaws.{any-count}
+use Rattle.words.proofs.StraightLaws.{or-zero, any-zero, any-count}
 
 -- two conjunctions, number by number
 all-both : (f g : ℕ → Bool) (n : ℕ) → (allBelow n f && allBelow n g) ≡ allBelow n (λ o. f o && g o)
@@ -173,9 +174,9 @@ module _ (ws : List ℕ) (members p : ℕ) where
       | no m ↦ simp (le-ltb o n (omega arith)) (eq-eqb (setAfter ws p o) 0 z)
     ]
 
-    pub sets-none : (z : Bool) → z ≡ noneAbove ws 393 64 0 → z ≡ true → true ≡ setsKept ws members p n
+    pub sets-none : (x : ℕ) → x ≡ anyIn ws 393 64 → x ≡ 0 → true ≡ setsKept ws members p n
     unfolding setsKept
-    sets-none z e h = sym (all-of setKept 64 (λ o l. empty-kept o (zero-at ws 393 64 (sym e ∙ h) 393 (placeAfter p o) (omega arith) (omega arith))))
+    sets-none x e h = sym (all-of setKept 64 (λ o l. empty-kept o (zero-at ws 393 64 (sym (any-zero ws 393 64 x e) ∙ eq-eqb x 0 h) 393 (placeAfter p o) (omega arith) (omega arith))))
 
     kept-closed : allBelow 64 setKept ≡ true → allBelow 64 setClosed ≡ true
     kept-closed t = all-of setClosed 64 (λ o l. elim (decLt o n) [
@@ -222,10 +223,12 @@ module _ (ws : List ℕ) (members p s : ℕ) where
   empty-entry o true a b = rw (a, b) (nobody-named members numbers masks (p + 1 + o))
   empty-entry o false a b = rw (a, b) refl
 
-  pub entries-none : (z : Bool) → z ≡ noneAbove ws 329 128 0 → z ≡ true → true ≡ entriesKept members numbers masks (entriesIn ws) p s
-  entries-none z e h = sym (all-of entryAt 64 (λ o l. empty-entry o (leb (p + 1 + o) s)
-      (zero-at ws 329 128 (sym e ∙ h) 329 (placeAfter p o) (omega arith) (omega arith))
-      (zero-at ws 329 128 (sym e ∙ h) 393 (placeAfter p o) (omega arith) (omega arith)))) ∙ entries-all
+  pub entries-none : (x y : ℕ) → x ≡ anyIn ws 329 64 → y ≡ anyIn ws 393 64 → bitOr x y ≡ 0 → true ≡ entriesKept members numbers masks (entriesIn ws) p s
+  entries-none x y ex ey h =
+      let both : (eqb x 0 && eqb y 0) ≡ true = sym (or-zero x y) ∙ eq-eqb (bitOr x y) 0 h in
+      sym (all-of entryAt 64 (λ o l. empty-entry o (leb (p + 1 + o) s)
+      (zero-at ws 329 64 (sym (any-zero ws 329 64 x ex) ∙ and-left (eqb x 0) (eqb y 0) both) 329 (placeAfter p o) (omega arith) (omega arith))
+      (zero-at ws 393 64 (sym (any-zero ws 393 64 y ey) ∙ and-right (eqb x 0) (eqb y 0) both) 393 (placeAfter p o) (omega arith) (omega arith)))) ∙ entries-all
 
   abbrev countKeptAt : ℕ → ℕ → Bool
   countKeptAt n o = cond (ltb o n) (leb (countAfter ws p o) 255) (eqb (countAfter ws p o) 0)

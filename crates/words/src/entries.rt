@@ -7,6 +7,7 @@ ghost use mathlib.Core.Path.{_≡_};
 ghost use Prim.Native.Nat.{_+_, _≤_, _<_};
 ghost use Rattle.downstream.specs.Formed.{entriesKept};
 ghost use Rattle.words.specs.Taken.{columnAt, entriesIn};
+ghost use Rattle.words.specs.Straight.{anyIn};
 ghost use Rattle.words.specs.Entries.{closedZero, countsKept, setsTold, setsKept};
 
 // Whether a column of the entries is zero for every message that is not one of the n after p. Their places go round once: what is closed
@@ -26,14 +27,13 @@ fn closed_zero(words: &[u64; 457], at: usize, p: u64, n: usize) -> bool
     }
 }
 
-// Whether the resend counts of the n messages after p are at most 255, and all others 0.
-fn counts_kept(words: &[u64; 457], p: u64, n: usize) -> bool
-    requires { ⌜ n ≤ 64 ⌝ }
+// Whether the resend counts of the n messages after p are at most 255, and all others 0, the bits of all of them being known.
+fn counts_kept(words: &[u64; 457], counts: u64, p: u64, n: usize) -> bool
+    requires { ⌜ (n ≤ 64) × (counts ≡ anyIn (now words) 329 64) ⌝ }
     ensures { λ r. ⌜ r ≡ countsKept (now (words .entry)) p n ⌝ }
 {
-    let small = any(words, 329, 64) <= 255;
     let closed = closed_zero(words, 329, p, n);
-    small & closed
+    (counts <= 255) & closed
 }
 
 // Whether the complaint sets of the n messages after p name only members that exist and lack the message.
@@ -47,12 +47,12 @@ fn sets_told(words: &[u64; 457], members: usize, p: u64, n: usize) -> bool
     downstream::all_complaints_kept(members, &numbers, &masks, &complaints, p, n as u64)
 }
 
-// Whether the complaint sets of the n messages after p do, and all others are empty.
-fn sets_kept(words: &[u64; 457], members: usize, p: u64, n: usize) -> bool
-    requires { ⌜ (members ≤ 64) × (p ≤ 1000000000000) × (n ≤ 64) ⌝ }
+// Whether the complaint sets of the n messages after p do, and all others are empty, all that they name being known.
+fn sets_kept(words: &[u64; 457], sets: u64, members: usize, p: u64, n: usize) -> bool
+    requires { ⌜ (members ≤ 64) × (p ≤ 1000000000000) × (n ≤ 64) × (sets ≡ anyIn (now words) 393 64) ⌝ }
     ensures { λ r. ⌜ r ≡ setsKept (now (words .entry)) members p n ⌝ }
 {
-    if all_zero(words, 393, 64) {
+    if sets == 0 {
         return true;
     }
     if !closed_zero(words, 393, p, n) {
@@ -66,11 +66,13 @@ pub(crate) fn entries_kept(words: &[u64; 457], members: usize, p: u64, s: u64) -
     requires { ⌜ (members ≤ 64) × (p ≤ 1000000000000) × (p ≤ s) × (s ≤ p + 64) ⌝ }
     ensures { λ r. ⌜ r ≡ entriesKept members (columnAt (now (words .entry)) 137) (columnAt (now (words .entry)) 201) (entriesIn (now (words .entry))) p s ⌝ }
 {
-    if all_zero(words, 329, 128) {
+    let counts = any(words, 329, 64);
+    let sets = any(words, 393, 64);
+    if counts | sets == 0 {
         return true;
     }
     let n = (s - p) as usize;
-    let counts = counts_kept(words, p, n);
-    let sets = sets_kept(words, members, p, n);
-    counts & sets
+    let counted = counts_kept(words, counts, p, n);
+    let told = sets_kept(words, sets, members, p, n);
+    counted & told
 }

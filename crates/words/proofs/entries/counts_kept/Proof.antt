@@ -4,9 +4,6 @@ use borrow.Author.Needs.{needs}
 use Rattle.words.proofs.entries.counts_kept.Statement.{statement}
 use Rattle.words.proofs.entries.counts_kept.Tie as tie
 
-any-requires : tie.Need-any-requires
-any-requires c κs = search needs
-
 closed-zero-requires : tie.Need-closed-zero-requires
 closed-zero-requires c κs = search needs
 
@@ -14,4 +11,4 @@ returns : tie.Need-returns
 returns c = search (counts-told, needs)
 
 pub counts-kept-spec : {M : Type 1} → statement M
-counts-kept-spec = tie.close (tie.spec any-requires closed-zero-requires returns)
+counts-kept-spec = tie.close (tie.spec closed-zero-requires returns)

@@ -4,8 +4,11 @@ use borrow.Author.Needs.{needs}
 use Rattle.words.proofs.entries.entries_kept.Statement.{statement}
 use Rattle.words.proofs.entries.entries_kept.Tie as tie
 
-all-zero-requires : tie.Need-all-zero-requires
-all-zero-requires c κs = search needs
+any-requires : tie.Need-any-requires
+any-requires c κs = search needs
+
+any-requires-2 : tie.Need-any-requires-2
+any-requires-2 c κs = search needs
 
 returns : tie.Need-returns
 returns c = search entries
@@ -25,4 +28,4 @@ returns-2 c = search entries
 pub entries-kept-spec : {M : Type 1} → statement M
 entries-kept-spec =
     tie.close
-    (tie.spec all-zero-requires returns sub-n counts-kept-requires sets-kept-requires returns-2)
+    (tie.spec any-requires any-requires-2 returns sub-n counts-kept-requires sets-kept-requires returns-2)

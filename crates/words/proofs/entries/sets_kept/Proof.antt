@@ -4,9 +4,6 @@ use borrow.Author.Needs.{needs}
 use Rattle.words.proofs.entries.sets_kept.Statement.{statement}
 use Rattle.words.proofs.entries.sets_kept.Tie as tie
 
-all-zero-requires : tie.Need-all-zero-requires
-all-zero-requires c κs = search needs
-
 returns : tie.Need-returns
 returns c = search sets
 
@@ -26,7 +23,6 @@ pub sets-kept-spec : {M : Type 1} → statement M
 sets-kept-spec =
     tie.close
     (tie.spec
-    all-zero-requires
     returns
     closed-zero-requires
     returns-2
