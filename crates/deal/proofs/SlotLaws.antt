@@ -2,18 +2,15 @@
 use mathlib.Core.Path.{_≡_, refl, ap, sym, _∙_}
 use mathlib.Core.Bool.{Bool, true, false, cond}
 use mathlib.Core.List.{List, [], _∷_}
-use Prim.Native.Nat.{ℕ, zero, suc, _+_, _-_, _*_, _/_, _≤_, _<_, min}
-use native.Mathlib.Nat.{zero-mul, mul-comm, mul-div-le, div-lt-iff-lt-mul}
+use Prim.Native.Nat.{ℕ, zero, suc, _+_, _-_, _≤_, _<_, min}
 use native.Mathlib.Decide.{decLt}
 use native.Mathlib.Numerals.{add-one}
 use native.Mathlib.Omega.{arith}
-use mir.Syntax.{w32}
-use mir.Val.{Fits}
 use lib.Dec.{ltb}
 use lib.ListN.{length, getD}
 use borrow.Author.Tests.{lt-ltb, le-ltb}
 use Rattle.basics.specs.Sums.{sumBelow, howMany, joinBelow}
-use Rattle.basics.proofs.SumLaws.{sum-start, sum-cong, sum-zero, sum-add, sum-bound}
+use Rattle.basics.proofs.SumLaws.{sum-start, sum-cong, sum-zero, sum-add}
 use Rattle.deal.specs.Rounds.{roundOf, dealOf, slotsBefore, ownerOf}
 use Rattle.basics.proofs.HowManyLaws.{one}
 use Rattle.basics.proofs.JoinLaws.{length-join, length-join-suc, join-at, join-past, join-below}

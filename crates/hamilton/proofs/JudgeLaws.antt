@@ -7,7 +7,7 @@ use native.Mathlib.Omega.{arith}
 use lib.Dec.{leb, lit<}
 use lib.ListN.{length, drop}
 use borrow.Author.Tests.{leb-true, eq-eqb, ne-eqb}
-use Rattle.basics.specs.Checks.{_else_, firstFailing}
+use Rattle.basics.specs.Checks.{_else_}
 use Rattle.basics.specs.Ranges.{isQuantum}
 use Rattle.basics.proofs.BoolLaws.{and-left, and-right}
 use Rattle.basics.proofs.CheckLaws.{checks-passed, checks-failed, first-passed, later-passed}

@@ -5,7 +5,7 @@ use Prim.Native.Nat.{ℕ, _+_, _≤_, _<_}
 use native.Mathlib.Omega.{arith}
 use lib.ListN.{length, drop, set, drop-of-length-le}
 use Rattle.basics.specs.Sums.{listBelow}
-use Rattle.basics.proofs.SumLaws.{length-list, list-turn}
+use Rattle.basics.proofs.SumLaws.{list-turn}
 
 module _ {A : Type 0} (f : ℕ → A) where
   pub fill-turn : (i : ℕ) {v : A} {l : List A} (o : List A) → l ≡ listBelow i f ++ drop i o → i < 64 → length l ≡ 64 → length o ≡ 64 → v ≡ f i → set l i v ≡ listBelow (i + 1) f ++ drop (i + 1) o

@@ -12,6 +12,7 @@ use borrow.Author.Tests.{le-leb, lt-leb, leb-true, lt-ltb, le-ltb, eq-eqb, eqb-t
 use lib.ListN.{getD}
 use Rattle.basics.specs.Sums.{allBelow, listBelow}
 use Rattle.basics.proofs.BoolLaws.{and-both, and-left, and-right, or-left, or-right, not-of-false, either, no-both, same-test}
+use Rattle.basics.proofs.BitLaws.{or-zero}
 use Rattle.basics.proofs.SumLaws.{all-at, all-of, all-cong, list-at}
 use Rattle.marks.specs.Masks.{isMarked}
 use Rattle.marks.proofs.MaskLaws.{marked-none}
@@ -22,7 +23,7 @@ use Rattle.words.specs.Taken.{wordAt, noneAbove, columnAt, entryIn, entr
 use Rattle.words.specs.Entries.{closedZero, countAfter, countsKept, setAfter, setsTold, setsKept}
 use Rattle.words.specs.Straight.{anyIn}
 use Rattle.words.proofs.FitLaws.{none-at}
-use Rattle.words.proofs.StraightLaws.{or-zero, any-zero, any-count}
+use Rattle.words.proofs.StraightLaws.{any-zero, any-count}
 
 -- two conjunctions, number by number
 all-both : (f g : ℕ → Bool) (n : ℕ) → (allBelow n f && allBelow n g) ≡ allBelow n (λ o. f o && g o)
