@@ -1,19 +1,23 @@
 -- What an accepted cluster is, from the answer 0 and back, and the sizes that follow. Assumes nothing.
-use mathlib.Core.Path.{_≡_, refl, sym, _∙_}
-use mathlib.Core.Bool.{Bool, true, false, _&&_}
+use mathlib.Core.Path.{_≡_, refl, ap₂, sym, _∙_}
+use mathlib.Core.Bool.{Bool, true, false, cond, _&&_}
 use mathlib.Core.List.{List}
-use Prim.Native.Nat.{ℕ, _+_, _*_, _%_, _≤_, _<_}
+use Prim.Native.Nat.{ℕ, _+_, _-_, _*_, _%_, _^_, _≤_, _<_}
 use native.Mathlib.Nat.{mod-eq-of-lt}
+use native.Mathlib.Decide.{decLt, decLe}
 use native.Mathlib.Omega.{arith}
-use lib.Dec.{leb, lit<}
+use lib.Bits.{bitOr}
+use lib.Dec.{leb, ltb, eqb, lit<}
 use lib.ListN.{length, getD}
 use borrow.Author.Needs.{needs}
-use borrow.Author.Tests.{le-leb, lt-leb, leb-true, ne-eqb, not-true, not-false}
+use borrow.Author.Tests.{le-leb, lt-leb, lt-ltb, le-ltb, leb-true, ltb-true, eq-eqb, ne-eqb, not-true, not-false}
 use Rattle.basics.specs.Checks.{firstFailing}
 use Rattle.basics.proofs.BoolLaws.{and-both, and-left, and-right, and-not-left, and-not-right}
-use Rattle.basics.proofs.SumLaws.{all-at, all-of, sum-cong, sum-bound}
+use Rattle.basics.proofs.SumLaws.{sum-more, all-turn, all-at, all-of, sum-bound}
+use Rattle.basics.proofs.BitLaws.{or-below}
+use Rattle.basics.specs.Sums.{sumBelow, allBelow}
 use Rattle.basics.proofs.CheckLaws.{first-passed, later-passed, Numbered}
-use Rattle.shares.specs.Shares.{totalOf, lowTotalOf}
+use Rattle.shares.specs.Shares.{totalOf}
 use Rattle.shares.specs.Cluster.{membersFit, isShare, sharesFit, boundsFit, clusterChecks, clusterRefusal, clusterAnswer, Accepted}
 use Rattle.shares.specs.declared.cluster.ClusterAnswer.{ClusterAnswer}
 
@@ -44,9 +48,9 @@ module _ (s : List ℕ) (u r : ℕ) (a : ClusterAnswer) where
   unfolding clusterRefusal firstFailing
   refused-many e l = cluster-refused 1 e (lit< tt) (simp (members-many s l))
 
-  pub refused-share : (fit : Bool) → a ≡ record { refusal = 2; total = 0 } → 1 ≤ length s → length s ≤ 64 → fit ≡ sharesFit s → fit ≡ false → a ≡ clusterAnswer s u r
+  pub refused-share : (bits : ℕ) → a ≡ record { refusal = 2; total = 0 } → 1 ≤ length s → length s ≤ 64 → ltb bits 2147483648 ≡ sharesFit s → 2147483648 ≤ bits → a ≡ clusterAnswer s u r
   unfolding clusterRefusal firstFailing
-  refused-share fit e l m f z = cluster-refused 2 e (lit< tt) (simp (members-fit s l m, sym f ∙ z))
+  refused-share bits e l m f z = cluster-refused 2 e (lit< tt) (simp (members-fit s l m, sym f ∙ le-ltb bits 2147483648 z))
 
 -- the answer's parts
 module _ (s : List ℕ) (u r : ℕ) (a : ClusterAnswer) (e : a ≡ clusterAnswer s u r) where
@@ -58,29 +62,98 @@ module _ (s : List ℕ) (u r : ℕ) (a : ClusterAnswer) (e : a ≡ clusterAnswer
   unfolding clusterAnswer
   answer-total z = rw e (simp (sym answer-refusal ∙ z))
 
--- an allowed share has no more than 20 bits
-low-bits : (x : ℕ) → isShare x ≡ true → x % 1048576 ≡ x
+-- ---- shares weighed in one pass
+pub limit-past : (x : ℕ) → 1000000 < x → 4294967295 - (x - 1000001) ≡ cond (leb x 1000000) (1000000 - x) (4295967296 - x)
+limit-past x l = simp (lt-leb x 1000000 l) (omega arith)
+
+pub share-told : (x a b : ℕ) → a ≡ cond (eqb x 0) 4294967295 (x - 1) → b ≡ cond (leb x 1000000) (1000000 - x) (4295967296 - x) → ltb (bitOr a b) 2147483648 ≡ isShare x
 unfolding isShare
-low-bits x e = mod-eq-of-lt (omega (arith, leb-true x 1000000 (and-right (leb 1 x) (leb x 1000000) e)))
+share-told x a b e f = or-below 31 a b ∙ both
+  where
+    both : (ltb a (2 ^ 31) && ltb b (2 ^ 31)) ≡ (leb 1 x && leb x 1000000)
+    both = elim (decLt 0 x) [
+      | yes l ↦ (elim (decLe x 1000000) [
+        | yes m ↦ (let ea : a ≡ x - 1 = e ∙ simp (ne-eqb x 0 (λ z. omega arith)) in
+            let eb : b ≡ 1000000 - x = f ∙ simp (le-leb x 1000000 m) in
+            simp (lt-ltb a (2 ^ 31) (omega arith), lt-ltb b (2 ^ 31) (omega arith), le-leb 1 x (omega arith), le-leb x 1000000 m))
+        | no m ↦ (let ea : a ≡ x - 1 = e ∙ simp (ne-eqb x 0 (λ z. omega arith)) in
+            let eb : b ≡ 4295967296 - x = f ∙ simp (lt-leb x 1000000 (omega arith)) in
+            elim (decLt a (2 ^ 31)) [
+              | yes y ↦ and-not-right (ltb a (2 ^ 31)) (ltb b (2 ^ 31)) (le-ltb b (2 ^ 31) (omega arith))
+              | no y ↦ and-not-left (ltb a (2 ^ 31)) (ltb b (2 ^ 31)) (le-ltb a (2 ^ 31) (omega arith))
+            ]
+            ∙ sym (and-not-right (leb 1 x) (leb x 1000000) (lt-leb x 1000000 (omega arith))))
+      ])
+      | no l ↦ (let z : x ≡ 0 = omega arith in
+          let ea : a ≡ 4294967295 = e ∙ simp (eq-eqb x 0 z) in
+          and-not-left (ltb a (2 ^ 31)) (ltb b (2 ^ 31)) (le-ltb a (2 ^ 31) (omega arith))
+          ∙ sym (and-not-left (leb 1 x) (leb x 1000000) (lt-leb 1 x (omega arith))))
+    ]
 
-module _ (s : List ℕ) (u r d : ℕ) (fit : Bool) (f : fit ≡ sharesFit s) (t : fit ≡ true) (e : d ≡ lowTotalOf s) where
+-- one more share: its bits, and the total
+pub bits-start : (p : ℕ → Bool) → ltb 0 2147483648 ≡ allBelow 0 p
+unfolding allBelow
+bits-start p = refl
+
+pub bits-turn : (p : ℕ → Bool) (i a b : ℕ) → ltb a 2147483648 ≡ allBelow i p → ltb b 2147483648 ≡ p i → ltb (bitOr a b) 2147483648 ≡ allBelow (i + 1) p
+bits-turn p i a b e f = or-below 31 a b ∙ all-turn p {i = i} e f
+
+pub bits-four : (p : ℕ → Bool) (a b c d : ℕ) → ltb a 2147483648 ≡ p 0 → ltb b 2147483648 ≡ p 1 → ltb c 2147483648 ≡ p 2 → ltb d 2147483648 ≡ p 3
+    → ltb (bitOr (bitOr a b) (bitOr c d)) 2147483648 ≡ allBelow 4 p
+unfolding allBelow
+bits-four p a b c d e f g h =
+    or-below 31 (bitOr a b) (bitOr c d) ∙ ap₂ _&&_ (or-below 31 a b ∙ ap₂ _&&_ e f) (or-below 31 c d ∙ ap₂ _&&_ g h) ∙ apart (p 0 && p 1) (p 2) (p 3)
+  where
+    apart : (x y z : Bool) → (x && (y && z)) ≡ ((x && y) && z)
+    apart true y z = refl
+    apart false y z = refl
+
+pub bits-of : (p : ℕ → Bool) (n m a : ℕ) → n ≡ m → ltb a 2147483648 ≡ allBelow m p → ltb a 2147483648 ≡ allBelow n p
+bits-of p n m a z e = rw z e
+
+pub total-of : (f : ℕ → ℕ) (n m t : ℕ) → n ≡ m → t ≡ sumBelow m f % 4294967296 → t ≡ sumBelow n f % 4294967296
+total-of f n m t z e = rw z e
+
+pub total-four : (f : ℕ → ℕ) (a b r : ℕ) → a ≡ (f 0 + f 1) % 4294967296 → b ≡ (f 2 + f 3) % 4294967296 → r ≡ (a + b) % 4294967296 → r ≡ sumBelow 4 f % 4294967296
+unfolding sumBelow
+total-four f a b r e g h = omega arith
+
+pub total-start : (f : ℕ → ℕ) → 0 ≡ sumBelow 0 f % 4294967296
+unfolding sumBelow
+total-start f = refl
+
+pub total-turn : (f : ℕ → ℕ) (i t r : ℕ) → t ≡ sumBelow i f % 4294967296 → r ≡ (t + f i) % 4294967296 → r ≡ sumBelow (i + 1) f % 4294967296
+total-turn f i t r e g = g ∙ rw (e, sum-more) (omega arith)
+
+pub total-done : (f : ℕ → ℕ) (i n t : ℕ) → t ≡ sumBelow i f % 4294967296 → i ≤ n → n ≤ i → t ≡ sumBelow n f % 4294967296
+total-done f i n t e a b = let z : i ≡ n = omega arith in rw z at e
+
+pub bits-done : (p : ℕ → Bool) (i n a : ℕ) → ltb a 2147483648 ≡ allBelow i p → i ≤ n → n ≤ i → ltb a 2147483648 ≡ allBelow n p
+bits-done p i n a e k l = let z : i ≡ n = omega arith in rw z at e
+
+module _ (s : List ℕ) (u r d bits : ℕ) (f : ltb bits 2147483648 ≡ sharesFit s) (t : bits < 2147483648) (e : d ≡ totalOf s % 4294967296) (few : length s ≤ 64) where
+  all-allowed : sharesFit s ≡ true
+  all-allowed = sym f ∙ lt-ltb bits 2147483648 t
+
   total-told : d ≡ totalOf s
-  unfolding totalOf lowTotalOf sharesFit
+  unfolding totalOf sharesFit isShare
   total-told =
-      e ∙ sum-cong (λ i. getD s i 0 % 1048576) (λ i. getD s i 0) (length s) (λ i l. low-bits (getD s i 0) (all-at (λ j. isShare (getD s j 0)) (length s) (sym f ∙ t) i l))
+      let each = all-at (λ j. isShare (getD s j 0)) (length s) all-allowed in
+      let small = sum-bound (λ i. getD s i 0) 1000000 (length s) (λ i l. leb-true (getD s i 0) 1000000 (and-right (leb 1 (getD s i 0)) (leb (getD s i 0) 1000000) (each i l))) in
+      e ∙ mod-eq-of-lt (omega (arith, small))
 
-  module _ (b : Bool) (g : b ≡ (leb r u && leb (2 * u + r + 1) d)) (l : 1 ≤ length s) (m : length s ≤ 64) where
+  module _ (b : Bool) (g : b ≡ (leb r u && leb (2 * u + r + 1) d)) (l : 1 ≤ length s) where
     bounds-told : b ≡ boundsFit s u r
     unfolding boundsFit
     bounds-told = g ∙ rw total-told refl
 
     pub refused-bounds : (a : ClusterAnswer) → a ≡ record { refusal = 3; total = 0 } → b ≡ false → a ≡ clusterAnswer s u r
     unfolding clusterRefusal firstFailing
-    refused-bounds a o h = cluster-refused s u r a 3 o (lit< tt) (simp (members-fit s l m, sym f ∙ t, sym bounds-told ∙ h))
+    refused-bounds a o h = cluster-refused s u r a 3 o (lit< tt) (simp (members-fit s l few, all-allowed, sym bounds-told ∙ h))
 
     bounds-borne : b ≡ true → 0 ≡ clusterRefusal s u r
     unfolding clusterRefusal firstFailing
-    bounds-borne h = simp (members-fit s l m, sym f ∙ t, sym bounds-told ∙ h)
+    bounds-borne h = simp (members-fit s l few, all-allowed, sym bounds-told ∙ h)
 
     pub cluster-accepted : b ≡ true → _≡_ {A = ClusterAnswer} (record { refusal = 0; total = d }) (clusterAnswer s u r)
     unfolding clusterAnswer

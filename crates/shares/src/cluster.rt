@@ -1,44 +1,105 @@
 // Which clusters are accepted.
 ghost use mathlib.Core.Path.{_≡_};
-ghost use mathlib.Core.Bool.{_&&_};
-ghost use Prim.Native.Nat.{_+_, _*_, _%_, _≤_};
-ghost use lib.Dec.{leb};
-ghost use lib.ListN.{length};
-ghost use Rattle.shares.specs.Shares.{lowTotalOf};
+ghost use mathlib.Core.Bool.{cond, _&&_};
+ghost use Prim.Native.Nat.{_+_, _-_, _*_, _%_, _≤_};
+ghost use lib.Dec.{leb, ltb, eqb};
+ghost use lib.ListN.{length, getD};
+ghost use Rattle.basics.specs.Sums.{sumBelow, allBelow};
+ghost use Rattle.shares.specs.Shares.{totalOf};
 ghost use Rattle.shares.specs.Cluster.{isShare, sharesFit, clusterRefusal, clusterAnswer};
 
-fn is_share(x: u32) -> bool
-    ensures { λ r. ⌜ r ≡ isShare x ⌝ }
+// x - 1, counted round below 0.
+fn one_less(x: u32) -> u32
+    ensures { λ r. ⌜ r ≡ cond (eqb x 0) 4294967295 (x - 1) ⌝ }
 {
-    (1 <= x) & (x <= 1_000_000)
+    if x == 0 { 4_294_967_295 } else { x - 1 }
 }
 
-// A share's 20 lowest bits: the whole of an allowed one, and of any 64 no sum is too large.
-fn low_bits(x: u32) -> u32
-    ensures { λ r. ⌜ (r ≡ x % 1048576) × (r ≤ 1048575) ⌝ }
+// 1,000,000 - x, counted round below 0.
+fn limit_less(x: u32) -> u32
+    ensures { λ r. ⌜ r ≡ cond (leb x 1000000) (1000000 - x) (4295967296 - x) ⌝ }
 {
-    x % 1_048_576
+    if x <= 1_000_000 {
+        1_000_000 - x
+    } else {
+        4_294_967_295 - (x - 1_000_001)
+    }
 }
 
-// What one pass tells of shares: whether all are allowed, and their total where they are.
+// Bit 31 tells that a share is not allowed: from 1 to 1,000,000 alone are both differences below 2^31. So bits are gathered of all shares,
+// and one of them asked for at the end.
+fn share_bits(x: u32) -> u32
+    ensures { λ r. ⌜ ltb r 2147483648 ≡ isShare x ⌝ }
+{
+    one_less(x) | limit_less(x)
+}
+
+// t + x, counted round: it is the sum where shares are allowed.
+fn rounded_sum(t: u32, x: u32) -> u32
+    ensures { λ r. ⌜ r ≡ (t + x) % 4294967296 ⌝ }
+{
+    if t <= 4_294_967_295 - x {
+        t + x
+    } else {
+        t - (4_294_967_295 - x) - 1
+    }
+}
+
+// What one pass tells of the first shares, so many: bits of which the highest tells whether all are allowed, and their total where they are.
 struct Weighed {
-    fit: bool,
+    members: usize,
+    bits: u32,
     total: u32,
 }
 
-fn weigh(shares: &[u32]) -> Weighed
-    requires { ⌜ length (now shares) ≤ 64 ⌝ }
-    ensures { λ w. ⌜ (w .fit ≡ sharesFit (now (shares .entry))) × (w .total ≡ lowTotalOf (now (shares .entry))) ⌝ }
+// Four shares, of which none waits for another.
+fn weigh_four(shares: &[u32]) -> Weighed
+    requires { ⌜ 4 ≤ length (now shares) ⌝ }
+    ensures { λ w. ⌜ (w .members ≡ 4) × (ltb (w .bits) 2147483648 ≡ allBelow 4 (λ i. isShare (getD (now (shares .entry)) i 0))) × (w .total ≡ sumBelow 4 (λ i. getD (now (shares .entry)) i 0) % 4294967296) ⌝ }
 {
-    let mut fit = true;
-    let mut total: u32 = 0;
-    let mut i = 0;
+    let a = share_bits(shares[0]) | share_bits(shares[1]);
+    let b = share_bits(shares[2]) | share_bits(shares[3]);
+    let first = rounded_sum(shares[0], shares[1]);
+    let second = rounded_sum(shares[2], shares[3]);
+    let total = rounded_sum(first, second);
+    Weighed {
+        members: 4,
+        bits: a | b,
+        total,
+    }
+}
+
+// A loop takes eight at once, and what is left of eights one by one: of these four are taken beforehand.
+fn weigh_first(shares: &[u32]) -> Weighed
+    ensures { λ w. ⌜ (w .members ≤ length (now (shares .entry))) × (ltb (w .bits) 2147483648 ≡ allBelow (w .members) (λ i. isShare (getD (now (shares .entry)) i 0))) × (w .total ≡ sumBelow (w .members) (λ i. getD (now (shares .entry)) i 0) % 4294967296) ⌝ }
+{
+    if 4 <= shares.len() % 8 {
+        return weigh_four(shares);
+    }
+    Weighed {
+        members: 0,
+        bits: 0,
+        total: 0,
+    }
+}
+
+fn weigh(shares: &[u32]) -> Weighed
+    ensures { λ w. ⌜ (ltb (w .bits) 2147483648 ≡ sharesFit (now (shares .entry))) × (w .total ≡ totalOf (now (shares .entry)) % 4294967296) ⌝ }
+{
+    let first = weigh_first(shares);
+    let mut bits = first.bits;
+    let mut total = first.total;
+    let mut i = first.members;
     while i < shares.len() {
-        fit = fit & is_share(shares[i]);
-        total += low_bits(shares[i]);
+        bits = bits | share_bits(shares[i]);
+        total = rounded_sum(total, shares[i]);
         i += 1;
     }
-    Weighed { fit, total }
+    Weighed {
+        members: i,
+        bits,
+        total,
+    }
 }
 
 // u and r may be any 32-bit numbers, so their sum is taken in 64.
@@ -72,7 +133,7 @@ pub fn judge_cluster(shares: &[u32], u: u32, r: u32) -> ClusterAnswer
         return refused(1);
     }
     let all = weigh(shares);
-    if !all.fit {
+    if 2_147_483_648 <= all.bits {
         return refused(2);
     }
     if !bounds_fit(all.total, u, r) {

@@ -133,19 +133,23 @@ unfolding zeros wordsOf clusterWords sharesWords reportWords entryWords numbersO
 none-put l e = e
 
 -- ---- parts of zeros
-pub zeros-first : (l : List ℕ) → l ≡ zeros 457 → midOf 0 67 l ≡ zeros 67
-unfolding zeros listBelow
-zeros-first l e = rw e refl
+none-zeros : (l : List ℕ) → l ≡ wordsOf noWindow → l ≡ zeros 457
+unfolding zeros wordsOf clusterWords sharesWords reportWords entryWords numbersOf masksOf heardOf countsOf complaintsOf listBelow
+none-zeros l e = e
 
-pub zeros-second : (c : Cluster) (l y : List ℕ) → l ≡ zeros 457 → y ≡ clusterWords c → midOf 67 67 (putMid 0 67 l y) ≡ zeros 67
+pub zeros-first : (l : List ℕ) → l ≡ wordsOf noWindow → midOf 0 67 l ≡ zeros 67
 unfolding zeros listBelow
-zeros-second c l y e f = behind l y 67 67 (ap length f ∙ length-cluster c) ∙ rw e refl
+zeros-first l e = rw (none-zeros l e) refl
+
+pub zeros-second : (c : Cluster) (l y : List ℕ) → l ≡ wordsOf noWindow → y ≡ clusterWords c → midOf 67 67 (putMid 0 67 l y) ≡ zeros 67
+unfolding zeros listBelow
+zeros-second c l y e f = behind l y 67 67 (ap length f ∙ length-cluster c) ∙ rw (none-zeros l e) refl
 
 pub zeros-shares : (l : List ℕ) → l ≡ zeros 67 → midOf 3 64 l ≡ zeros 64
 unfolding zeros listBelow
 zeros-shares l e = rw e refl
 
-pub opened-put : (sending receiving : Cluster) (q : ℕ) (s a b c : List ℕ) → s ≡ zeros 457 → a ≡ clusterWords sending → b ≡ clusterWords receiving → c ≡ q ∷ 0 ∷ 0 ∷ []
+pub opened-put : (sending receiving : Cluster) (q : ℕ) (s a b c : List ℕ) → s ≡ wordsOf noWindow → a ≡ clusterWords sending → b ≡ clusterWords receiving → c ≡ q ∷ 0 ∷ 0 ∷ []
     → putMid 134 3 (putMid 67 67 (putMid 0 67 s a) b) c ≡ wordsOf (windowFrom sending receiving q)
 unfolding wordsOf
 opened-put sending receiving q s a b c e ea eb ec =
@@ -156,7 +160,7 @@ opened-put sending receiving q s a b c e ea eb ec =
     let one : putMid 0 67 s a ≡ a ++ drop 67 s = put-next [] a s 0 67 refl la in
     let two : putMid 67 67 (putMid 0 67 s a) b ≡ (a ++ b) ++ drop 134 s = more a b s (putMid 0 67 s a) 67 67 one la lb in
     more (a ++ b) c s (putMid 67 67 (putMid 0 67 s a) b) 134 3 two lab lc
-    ∙ ap (λ (t : List ℕ). a ++ b ++ c ++ drop 137 t) e
+    ∙ ap (λ (t : List ℕ). a ++ b ++ c ++ drop 137 t) (none-zeros s e)
     ∙ ap (λ (t : List ℕ). a ++ b ++ c ++ t) none-there
     ∙ sym (append-assoc (a ++ b ++ c) (reportWords (replicate 64 noReport)) (entryWords (replicate 64 noEntry)))
     ∙ rw (ea, eb, ec) refl

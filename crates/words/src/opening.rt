@@ -55,19 +55,24 @@ fn put_cluster(shares: &[u32], u: u32, r: u32, out: &mut [u64])
     put_three(shares.len() as u64, u as u64, r as u64, &mut out[0..3]);
 }
 
-// Zeros first, so that only what is not zero is put then.
 fn put_parts(ss: &[u32], su: u32, sr: u32, rs: &[u32], ru: u32, rr: u32, q: u32, out: &mut [u64])
-    requires { ⌜ (length (now ss) ≤ 64) × (length (now rs) ≤ 64) × (length (now out) ≡ 457) ⌝ }
+    requires { ⌜ (length (now ss) ≤ 64) × (length (now rs) ≤ 64) × (length (now out) ≡ 457) × (now out ≡ wordsOf noWindow) ⌝ }
     ensures { λ _. ⌜ now (out .exit) ≡ wordsOf (windowFrom (clusterFrom (now (ss .entry)) su sr) (clusterFrom (now (rs .entry)) ru rr) q) ⌝ }
 {
-    put_zeros_in(out);
     put_cluster(ss, su, sr, &mut out[0..67]);
     put_cluster(rs, ru, rr, &mut out[67..134]);
     put_three(q as u64, 0, 0, &mut out[134..137]);
 }
 
-// The words of a window between two clusters that is just opened.
-// inner: for accepted clusters, which have at most 64 members.
+// The words of a refused opening.
+pub fn put_none(words: &mut [u64; 457])
+    ensures { λ _. ⌜ now (words .exit) ≡ wordsOf noWindow ⌝ }
+{
+    put_zeros_in(words);
+}
+
+// The words of a window between two clusters that is just opened, put into those of no window: only what is not zero need be put then.
+// inner: for accepted clusters, which have at most 64 members, and words that were made those of a refused opening before.
 pub fn put_opened(
     ss: &[u32],
     su: u32,
@@ -78,15 +83,8 @@ pub fn put_opened(
     q: u32,
     words: &mut [u64; 457],
 )
-    requires { ⌜ (length (now ss) ≤ 64) × (length (now rs) ≤ 64) ⌝ }
+    requires { ⌜ (length (now ss) ≤ 64) × (length (now rs) ≤ 64) × (now words ≡ wordsOf noWindow) ⌝ }
     ensures { λ _. ⌜ now (words .exit) ≡ wordsOf (windowFrom (clusterFrom (now (ss .entry)) su sr) (clusterFrom (now (rs .entry)) ru rr) q) ⌝ }
 {
     put_parts(ss, su, sr, rs, ru, rr, q, words);
-}
-
-// The words of a refused opening.
-pub fn put_none(words: &mut [u64; 457])
-    ensures { λ _. ⌜ now (words .exit) ≡ wordsOf noWindow ⌝ }
-{
-    put_zeros_in(words);
 }

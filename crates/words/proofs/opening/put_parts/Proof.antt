@@ -1,11 +1,8 @@
--- Zeros, and three parts put into them.
+-- Three parts, put into zeros.
 use Rattle.words.proofs.PutLaws.{opened-put, zeros-first, zeros-second}
 use borrow.Author.Needs.{needs}
 use Rattle.words.proofs.opening.put_parts.Statement.{statement}
 use Rattle.words.proofs.opening.put_parts.Tie as tie
-
-put-zeros-in-requires : tie.Need-put-zeros-in-requires
-put-zeros-in-requires c κs = search needs
 
 sub-put-cluster : tie.Need-sub-put-cluster
 sub-put-cluster c = search needs
@@ -53,7 +50,6 @@ pub put-parts-spec : {M : Type 1} → statement M
 put-parts-spec =
     tie.close
     (tie.spec
-    put-zeros-in-requires
     sub-put-cluster
     part-put-cluster-start
     part-put-cluster-end
