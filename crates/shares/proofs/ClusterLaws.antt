@@ -10,7 +10,7 @@ use lib.Bits.{bitOr}
 use lib.Dec.{leb, ltb, eqb, lit<}
 use lib.ListN.{length, getD}
 use borrow.Author.Needs.{needs}
-use borrow.Author.Tests.{le-leb, lt-leb, lt-ltb, le-ltb, leb-true, ltb-true, eq-eqb, ne-eqb, not-true, not-false}
+use borrow.Author.Tests.{le-leb, lt-leb, lt-ltb, le-ltb, leb-true, eq-eqb, ne-eqb, not-true, not-false}
 use Rattle.basics.specs.Checks.{firstFailing}
 use Rattle.basics.proofs.BoolLaws.{and-both, and-left, and-right, and-not-left, and-not-right}
 use Rattle.basics.proofs.SumLaws.{sum-more, all-turn, all-at, all-of, sum-bound}
@@ -34,33 +34,53 @@ members-fit : (s : List ℕ) → 1 ≤ length s → length s ≤ 64 → membersF
 unfolding membersFit
 members-fit s l m = and-both (leb 1 (length s)) (leb (length s) 64) (le-leb 1 (length s) l) (le-leb (length s) 64 m)
 
--- a refusal has no total
-module _ (s : List ℕ) (u r : ℕ) (a : ClusterAnswer) where
-  cluster-refused : (n : ℕ) → a ≡ record { refusal = n; total = 0 } → 0 < n → n ≡ clusterRefusal s u r → a ≡ clusterAnswer s u r
+-- ---- the answers
+module _ (s : List ℕ) (u r : ℕ) where
+  told-none : membersFit s ≡ false → 1 ≡ clusterRefusal s u r → _≡_ {A = ClusterAnswer} (record { refusal = 1; total = 0 }) (clusterAnswer s u r)
   unfolding clusterAnswer
-  cluster-refused n e z f = e ∙ rw (← f, ne-eqb n 0 (λ y. omega arith)) refl
+  told-none m e = rw (← e, m) refl
 
-  pub refused-none : a ≡ record { refusal = 1; total = 0 } → length s < 1 → a ≡ clusterAnswer s u r
+  pub refused-none : length s < 1 → _≡_ {A = ClusterAnswer} (record { refusal = 1; total = 0 }) (clusterAnswer s u r)
   unfolding clusterRefusal firstFailing
-  refused-none e l = cluster-refused 1 e (lit< tt) (simp (members-none s l))
+  refused-none l = told-none (members-none s l) (simp (members-none s l))
 
-  pub refused-many : a ≡ record { refusal = 1; total = 0 } → 64 < length s → a ≡ clusterAnswer s u r
+  pub refused-many : 64 < length s → _≡_ {A = ClusterAnswer} (record { refusal = 1; total = 0 }) (clusterAnswer s u r)
   unfolding clusterRefusal firstFailing
-  refused-many e l = cluster-refused 1 e (lit< tt) (simp (members-many s l))
+  refused-many l = told-none (members-many s l) (simp (members-many s l))
 
-  pub refused-share : (bits : ℕ) → a ≡ record { refusal = 2; total = 0 } → 1 ≤ length s → length s ≤ 64 → ltb bits 2147483648 ≡ sharesFit s → 2147483648 ≤ bits → a ≡ clusterAnswer s u r
-  unfolding clusterRefusal firstFailing
-  refused-share bits e l m f z = cluster-refused 2 e (lit< tt) (simp (members-fit s l m, sym f ∙ le-ltb bits 2147483648 z))
+  module _ (l : 1 ≤ length s) (few : length s ≤ 64) (d : ℕ) (e : d ≡ totalOf s % 4294967296) where
+    told-some : (n : ℕ) → n ≡ clusterRefusal s u r → _≡_ {A = ClusterAnswer} (record { refusal = n; total = d }) (clusterAnswer s u r)
+    unfolding clusterAnswer
+    told-some n f = rw (f, e, members-fit s l few) refl
 
--- the answer's parts
-module _ (s : List ℕ) (u r : ℕ) (a : ClusterAnswer) (e : a ≡ clusterAnswer s u r) where
-  pub answer-refusal : a .refusal ≡ clusterRefusal s u r
-  unfolding clusterAnswer
-  answer-refusal = rw e refl
+    module _ (bits : ℕ) (f : ltb bits 2147483648 ≡ sharesFit s) where
+      pub refused-share : 2147483648 ≤ bits → _≡_ {A = ClusterAnswer} (record { refusal = 2; total = d }) (clusterAnswer s u r)
+      unfolding clusterRefusal firstFailing
+      refused-share z = told-some 2 (simp (members-fit s l few, sym f ∙ le-ltb bits 2147483648 z))
 
-  pub answer-total : a .refusal ≡ 0 → a .total ≡ totalOf s
-  unfolding clusterAnswer
-  answer-total z = rw e (simp (sym answer-refusal ∙ z))
+      module _ (t : bits < 2147483648) where
+        all-allowed : sharesFit s ≡ true
+        all-allowed = sym f ∙ lt-ltb bits 2147483648 t
+
+        total-told : d ≡ totalOf s
+        unfolding totalOf sharesFit isShare
+        total-told =
+            let each = all-at (λ j. isShare (getD s j 0)) (length s) all-allowed in
+            let small = sum-bound (λ i. getD s i 0) 1000000 (length s) (λ i k. leb-true (getD s i 0) 1000000 (and-right (leb 1 (getD s i 0)) (leb (getD s i 0) 1000000) (each i k))) in
+            e ∙ mod-eq-of-lt (omega (arith, small))
+
+        module _ (b : Bool) (g : b ≡ (leb r u && leb (2 * u + r + 1) d)) where
+          bounds-told : b ≡ boundsFit s u r
+          unfolding boundsFit
+          bounds-told = g ∙ rw total-told refl
+
+          pub refused-bounds : b ≡ false → _≡_ {A = ClusterAnswer} (record { refusal = 3; total = d }) (clusterAnswer s u r)
+          unfolding clusterRefusal firstFailing
+          refused-bounds h = told-some 3 (simp (members-fit s l few, all-allowed, sym bounds-told ∙ h))
+
+          pub cluster-accepted : b ≡ true → _≡_ {A = ClusterAnswer} (record { refusal = 0; total = d }) (clusterAnswer s u r)
+          unfolding clusterRefusal firstFailing
+          cluster-accepted h = told-some 0 (simp (members-fit s l few, all-allowed, sym bounds-told ∙ h))
 
 -- ---- shares weighed in one pass
 pub limit-past : (x : ℕ) → 1000000 < x → 4294967295 - (x - 1000001) ≡ cond (leb x 1000000) (1000000 - x) (4295967296 - x)
@@ -131,34 +151,6 @@ total-done f i n t e a b = let z : i ≡ n = omega arith in rw z at e
 pub bits-done : (p : ℕ → Bool) (i n a : ℕ) → ltb a 2147483648 ≡ allBelow i p → i ≤ n → n ≤ i → ltb a 2147483648 ≡ allBelow n p
 bits-done p i n a e k l = let z : i ≡ n = omega arith in rw z at e
 
-module _ (s : List ℕ) (u r d bits : ℕ) (f : ltb bits 2147483648 ≡ sharesFit s) (t : bits < 2147483648) (e : d ≡ totalOf s % 4294967296) (few : length s ≤ 64) where
-  all-allowed : sharesFit s ≡ true
-  all-allowed = sym f ∙ lt-ltb bits 2147483648 t
-
-  total-told : d ≡ totalOf s
-  unfolding totalOf sharesFit isShare
-  total-told =
-      let each = all-at (λ j. isShare (getD s j 0)) (length s) all-allowed in
-      let small = sum-bound (λ i. getD s i 0) 1000000 (length s) (λ i l. leb-true (getD s i 0) 1000000 (and-right (leb 1 (getD s i 0)) (leb (getD s i 0) 1000000) (each i l))) in
-      e ∙ mod-eq-of-lt (omega (arith, small))
-
-  module _ (b : Bool) (g : b ≡ (leb r u && leb (2 * u + r + 1) d)) (l : 1 ≤ length s) where
-    bounds-told : b ≡ boundsFit s u r
-    unfolding boundsFit
-    bounds-told = g ∙ rw total-told refl
-
-    pub refused-bounds : (a : ClusterAnswer) → a ≡ record { refusal = 3; total = 0 } → b ≡ false → a ≡ clusterAnswer s u r
-    unfolding clusterRefusal firstFailing
-    refused-bounds a o h = cluster-refused s u r a 3 o (lit< tt) (simp (members-fit s l few, all-allowed, sym bounds-told ∙ h))
-
-    bounds-borne : b ≡ true → 0 ≡ clusterRefusal s u r
-    unfolding clusterRefusal firstFailing
-    bounds-borne h = simp (members-fit s l few, all-allowed, sym bounds-told ∙ h)
-
-    pub cluster-accepted : b ≡ true → _≡_ {A = ClusterAnswer} (record { refusal = 0; total = d }) (clusterAnswer s u r)
-    unfolding clusterAnswer
-    cluster-accepted h = rw (← bounds-borne h, total-told) refl
-
 pub ruleset judging = (not-true, not-false, refused-none, refused-many, refused-share, refused-bounds, cluster-accepted, needs)
 
 pub cluster-numbered : (s : List ℕ) (u r : ℕ) → Numbered (clusterChecks s u r)
@@ -200,3 +192,15 @@ module _ (s : List ℕ) (u r : ℕ) where
   pub total-small : Accepted s u r → totalOf s ≤ 64_000_000
   unfolding totalOf
   total-small a = omega (arith, a .few-members, sum-bound (λ i. getD s i 0) 1000000 (length s) (a .small-share))
+
+-- ---- the answer's parts
+module _ (s : List ℕ) (u r : ℕ) (a : ClusterAnswer) (e : a ≡ clusterAnswer s u r) where
+  pub answer-refusal : a .refusal ≡ clusterRefusal s u r
+  unfolding clusterAnswer
+  answer-refusal = rw e refl
+
+  pub answer-total : a .refusal ≡ 0 → a .total ≡ totalOf s
+  unfolding clusterAnswer
+  answer-total z =
+      let ok = accepts s u r (sym answer-refusal ∙ z) in
+      rw (e, members-fit s (ok .some-member) (ok .few-members)) (mod-eq-of-lt (omega (arith, total-small s u r ok)))

@@ -1,8 +1,8 @@
 -- Which clusters are accepted: a lent list of shares, member 0 first, and the bounds u and r. Assumes nothing.
 use mathlib.Core.Bool.{Bool, cond, _&&_}
 use mathlib.Core.List.{List, [], _∷_}
-use Prim.Native.Nat.{ℕ, _+_, _*_, _≤_, _<_}
-use lib.Dec.{leb, eqb}
+use Prim.Native.Nat.{ℕ, _+_, _*_, _%_, _≤_, _<_}
+use lib.Dec.{leb}
 use lib.ListN.{length, getD}
 use Rattle.basics.specs.Sums.{allBelow}
 use Rattle.basics.specs.Checks.{Check, _else_, firstFailing}
@@ -36,9 +36,9 @@ clusterChecks shares u r =
 unfoldable pub clusterRefusal : List ℕ → ℕ → ℕ → ℕ
 clusterRefusal shares u r = firstFailing (clusterChecks shares u r)
 
--- and with 0 its total share
+-- and the total share of up to 64 members, counted round in 32 bits: of an accepted cluster it is the total itself
 unfoldable pub clusterAnswer : List ℕ → ℕ → ℕ → ClusterAnswer
-clusterAnswer shares u r = record { refusal = clusterRefusal shares u r; total = cond (eqb (clusterRefusal shares u r) 0) (totalOf shares) 0 }
+clusterAnswer shares u r = record { refusal = clusterRefusal shares u r; total = cond (membersFit shares) (totalOf shares % 4294967296) 0 }
 
 -- what is known of an accepted cluster
 pub record Accepted (shares : List ℕ) (u r : ℕ) : Type 0 where

@@ -110,39 +110,38 @@ fn bounds_fit(d: u32, u: u32, r: u32) -> bool
     (r <= u) & (least <= d as u64)
 }
 
-// A refusal and 0, or 0 and the total share.
+// A refusal, 0 for none, and the total share, counted round: with no refusal that is the total itself.
 pub struct ClusterAnswer {
     pub refusal: u32,
     pub total: u32,
 }
 
-fn refused(refusal: u32) -> ClusterAnswer
-    ensures { λ a. ⌜ a ≡ record { refusal = refusal; total = 0 } ⌝ }
-{
-    ClusterAnswer { refusal, total: 0 }
-}
-
-// The refusal that a cluster gets: 1, 2, 3 in this order, 0 for none; and with none its total, which judging finds anyway.
+// The refusal that a cluster gets: 1, 2, 3 in this order, 0 for none; and the total, which judging finds anyway. It is told whatever the
+// refusal, so that nothing that uses it need wait for the judgement.
 pub fn judge_cluster(shares: &[u32], u: u32, r: u32) -> ClusterAnswer
     ensures { λ a. ⌜ a ≡ clusterAnswer (now (shares .entry)) u r ⌝ }
 {
     if shares.len() < 1 {
-        return refused(1);
+        return ClusterAnswer {
+            refusal: 1,
+            total: 0,
+        };
     }
     if 64 < shares.len() {
-        return refused(1);
+        return ClusterAnswer {
+            refusal: 1,
+            total: 0,
+        };
     }
     let all = weigh(shares);
+    let total = all.total;
     if 2_147_483_648 <= all.bits {
-        return refused(2);
+        return ClusterAnswer { refusal: 2, total };
     }
-    if !bounds_fit(all.total, u, r) {
-        return refused(3);
+    if !bounds_fit(total, u, r) {
+        return ClusterAnswer { refusal: 3, total };
     }
-    ClusterAnswer {
-        refusal: 0,
-        total: all.total,
-    }
+    ClusterAnswer { refusal: 0, total }
 }
 
 // The refusal alone.

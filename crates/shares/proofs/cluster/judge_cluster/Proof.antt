@@ -1,17 +1,11 @@
--- Each answer is that of the first check that fails, and the last one has the total.
+-- Each answer is that of the first check that fails, with the total.
 use Rattle.shares.proofs.ClusterLaws.{judging}
 use borrow.Author.Needs.{needs}
 use Rattle.shares.proofs.cluster.judge_cluster.Statement.{statement}
 use Rattle.shares.proofs.cluster.judge_cluster.Tie as tie
 
-refused-requires : tie.Need-refused-requires
-refused-requires c κs = search needs
-
 returns : tie.Need-returns
 returns c = search judging
-
-refused-requires-2 : tie.Need-refused-requires-2
-refused-requires-2 c κs = search needs
 
 returns-2 : tie.Need-returns-2
 returns-2 c = search judging
@@ -19,17 +13,11 @@ returns-2 c = search judging
 weigh-requires : tie.Need-weigh-requires
 weigh-requires c κs = search needs
 
-refused-requires-3 : tie.Need-refused-requires-3
-refused-requires-3 c κs = search needs
-
 returns-3 : tie.Need-returns-3
 returns-3 c = search judging
 
 bounds-fit-requires : tie.Need-bounds-fit-requires
 bounds-fit-requires c κs = search needs
-
-refused-requires-4 : tie.Need-refused-requires-4
-refused-requires-4 c κs = search needs
 
 returns-4 : tie.Need-returns-4
 returns-4 c = search judging
@@ -40,15 +28,4 @@ returns-5 c = search judging
 pub judge-cluster-spec : {M : Type 1} → statement M
 judge-cluster-spec =
     tie.close
-    (tie.spec
-    refused-requires
-    returns
-    refused-requires-2
-    returns-2
-    weigh-requires
-    refused-requires-3
-    returns-3
-    bounds-fit-requires
-    refused-requires-4
-    returns-4
-    returns-5)
+    (tie.spec returns returns-2 weigh-requires returns-3 bounds-fit-requires returns-4 returns-5)
