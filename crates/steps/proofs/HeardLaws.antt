@@ -22,7 +22,7 @@ use Rattle.marks.proofs.AfterLaws.{after-at}
 use Rattle.downstream.specs.State.{offsetAt}
 use Rattle.judging.specs.Complaints.{complains, complaintsAfter}
 use Rattle.words.specs.Taken.{wordAt}
-use Rattle.steps.specs.Columns.{openAt, heardAfter, changedAt}
+use Rattle.steps.specs.Columns.{openAt, heardAfter, changedAt, toldSet}
 use Rattle.steps.proofs.EntryLaws.{same-list}
 
 -- a test that is made a number
@@ -121,18 +121,19 @@ module _ (ws : List ℕ) (i c mask : ℕ) (again : Bool) (p n : ℕ) where
   changed-place f messages l j m = list-at (λ x. cond (isMarked messages (offsetAt p x)) (f (getD l x 0)) (getD l x 0)) 0 64 j m
 
   abbrev out : List ℕ
-  out = changedAt (λ set. unmarkOf set i) gains p (openAt ws 393 p n)
+  out = changedAt (toldSet false i) gains p (openAt ws 393 p n)
 
   out-place : (j : ℕ) → j < 64 → getD out j 0 ≡ cond (isMarked held (offsetAt p j) && ltb (offsetAt p j) n && true) (unmarkOf (cond (ltb (offsetAt p j) n) (wordAt ws (393 + j)) 0) i) (cond (ltb (offsetAt p j) n) (wordAt ws (393 + j)) 0)
-  out-place j m = changed-place (λ set. unmarkOf set i) gains (openAt ws 393 p n) j m ∙ rw (gains-at (offsetAt p j) (omega arith), open-place j m) refl
+  unfolding toldSet
+  out-place j m = changed-place (toldSet false i) gains (openAt ws 393 p n) j m ∙ rw (gains-at (offsetAt p j) (omega arith), open-place j m) refl
 
-  both : changedAt (λ set. markOf set i) lacks p out ≡ heardAfter ws i c mask again p n
-  unfolding changedAt heardAfter
+  both : changedAt (toldSet true i) lacks p out ≡ heardAfter ws i c mask again p n
+  unfolding changedAt heardAfter toldSet
   both = same-list (λ j. cond (isMarked lacks (offsetAt p j)) (markOf (getD out j 0) i) (getD out j 0)) (λ j. cond (ltb (offsetAt p j) n) (complaintsAfter i c mask again p (p + 1 + offsetAt p j) (wordAt ws (393 + j))) 0) 0
       (λ j m. rw (out-place j m, lacks-at (offsetAt p j) (omega arith)) (one-place (isMarked held (offsetAt p j)) (isMarked lacked (offsetAt p j)) (ltb (offsetAt p j) n) (wordAt ws (393 + j)))
       ∙ ap (λ (x : ℕ). cond (ltb (offsetAt p j) n) x 0) (bits-told c mask again p (offsetAt p j) (omega arith) (wordAt ws (393 + j)) i))
 
 pub heard-told : (ws : List ℕ) (i c mask : ℕ) (again : Bool) (p n highest held missing gains lacks : ℕ) (sets one two : List ℕ) → highest ≡ highestOf c mask → held ≡ heldAfter p c mask
     → missing ≡ bitOr (heldAfter p (highest - 1) 0) (cond (again && eqb c p) 1 0) → gains ≡ amongOf held 0 n → lacks ≡ amongOf (bitAnd missing (18446744073709551615 - held)) 0 n
-    → sets ≡ openAt ws 393 p n → one ≡ changedAt (λ set. unmarkOf set i) gains p sets → two ≡ changedAt (λ set. markOf set i) lacks p one → two ≡ heardAfter ws i c mask again p n
+    → sets ≡ openAt ws 393 p n → one ≡ changedAt (toldSet false i) gains p sets → two ≡ changedAt (toldSet true i) lacks p one → two ≡ heardAfter ws i c mask again p n
 heard-told ws i c mask again p n highest held missing gains lacks sets one two eh ed em eg el es e f = f ∙ rw (e, es, el, eg, em, ed, eh) (both ws i c mask again p n)

@@ -5,7 +5,7 @@ use Prim.Native.Nat.{ℕ, _+_, _-_, _≤_}
 use lib.Dec.{ltb}
 use lib.ListN.{getD}
 use Rattle.basics.specs.Sums.{listBelow}
-use Rattle.marks.specs.Masks.{isMarked, runOf}
+use Rattle.marks.specs.Masks.{isMarked, markOf, unmarkOf, runOf}
 use Rattle.downstream.specs.State.{offsetAt}
 use Rattle.judging.specs.Complaints.{complaintsAfter}
 use Rattle.words.specs.Places.{countsAt, complaintsAt}
@@ -35,6 +35,10 @@ firstBit set = runOf (18446744073709551615 - set)
 -- a column changed at the places of a set of messages, bit o for message p + 1 + o
 unfoldable pub changedAt : (ℕ → ℕ) → ℕ → ℕ → List ℕ → List ℕ
 changedAt change messages p column = listBelow 64 (λ j. cond (isMarked messages (offsetAt p j)) (change (getD column j 0)) (getD column j 0))
+
+-- a complaint set with member i in it where it complains, and without it where it does not
+unfoldable pub toldSet : Bool → ℕ → ℕ → ℕ
+toldSet complains i set = cond complains (markOf set i) (unmarkOf set i)
 
 -- raise the count of each message that is due, and empty its set
 abbrev pub raisedCounts : ℕ → ℕ → List ℕ → List ℕ

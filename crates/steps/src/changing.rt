@@ -3,8 +3,8 @@ ghost use mathlib.Core.Path.{_≡_};
 ghost use mathlib.Core.Bool.{true};
 ghost use Prim.Native.Nat.{_≤_, _<_};
 ghost use lib.ListN.{length};
-ghost use Rattle.marks.specs.Masks.{isMarked, markOf, unmarkOf};
-ghost use Rattle.steps.specs.Columns.{firstBit, changedAt, small, raisedCounts, emptiedSets};
+ghost use Rattle.marks.specs.Masks.{isMarked, unmarkOf};
+ghost use Rattle.steps.specs.Columns.{firstBit, changedAt, toldSet, small, raisedCounts, emptiedSets};
 
 // The first bit of a set that has one.
 fn first_of(set: u64) -> u64
@@ -22,32 +22,28 @@ fn without_first(set: u64) -> u64
     set & (set - 1)
 }
 
-// Takes member i out of the complaint sets of some messages.
-pub(crate) fn take_out(sets: &mut [u64], messages: u64, p: u64, i: u32)
-    requires { ⌜ (length (now sets) ≡ 64) × (p ≤ 1000000000000) ⌝ }
-    ensures { λ _. ⌜ now (sets .exit) ≡ changedAt (λ set. unmarkOf set i) messages p (now (sets .entry)) ⌝ }
+// A complaint set with member i in it where it complains, and without it where it does not.
+fn told_set(set: u64, i: u32, complains: bool) -> u64
+    ensures { λ r. ⌜ r ≡ toldSet complains i set ⌝ }
 {
-    let mut rest = messages;
-    while 0 < rest {
-        let o = first_of(rest);
-        let at = ((p + o) % 64) as usize;
-        let set = sets[at];
-        sets[at] = marks::unmark(set, i as u64);
-        rest = without_first(rest);
+    if complains {
+        marks::mark(set, i as u64)
+    } else {
+        marks::unmark(set, i as u64)
     }
 }
 
-// Adds member i to the complaint sets of some messages.
-pub(crate) fn put_in(sets: &mut [u64], messages: u64, p: u64, i: u32)
+// Puts member i into the complaint sets of some messages, or takes it out of them.
+pub(crate) fn tell(sets: &mut [u64], messages: u64, p: u64, i: u32, complains: bool)
     requires { ⌜ (length (now sets) ≡ 64) × (p ≤ 1000000000000) ⌝ }
-    ensures { λ _. ⌜ now (sets .exit) ≡ changedAt (λ set. markOf set i) messages p (now (sets .entry)) ⌝ }
+    ensures { λ _. ⌜ now (sets .exit) ≡ changedAt (toldSet complains i) messages p (now (sets .entry)) ⌝ }
 {
     let mut rest = messages;
     while 0 < rest {
         let o = first_of(rest);
         let at = ((p + o) % 64) as usize;
         let set = sets[at];
-        sets[at] = marks::mark(set, i as u64);
+        sets[at] = told_set(set, i, complains);
         rest = without_first(rest);
     }
 }

@@ -1,7 +1,6 @@
 // The complaint sets of the entries as a report changes them. What it holds and what it may complain of are two words over the messages
 // after p, made once.
-use crate::changing::put_in;
-use crate::changing::take_out;
+use crate::changing::tell;
 use crate::columns::open_at;
 use judging::Hearing;
 ghost use mathlib.Core.Path.{_≡_};
@@ -31,7 +30,7 @@ pub(crate) fn heard_after(words: &[u64; 457], h: Hearing, p: u64, n: u64) -> [u6
     let held = marks::held_after(p, h.number, h.mask);
     let missing = missing_after(h, p);
     let mut sets = open_at(words, 393, p, n);
-    take_out(&mut sets, marks::among(held, 0, n), p, h.member);
-    put_in(&mut sets, marks::among(missing & !held, 0, n), p, h.member);
+    tell(&mut sets, marks::among(held, 0, n), p, h.member, false);
+    tell(&mut sets, marks::among(missing & !held, 0, n), p, h.member, true);
     sets
 }

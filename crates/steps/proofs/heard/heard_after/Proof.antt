@@ -13,23 +13,23 @@ missing-after-requires c κs = search needs
 open-at-requires : tie.Need-open-at-requires
 open-at-requires c κs = search needs
 
-slice-aggregate-take-out : tie.Need-slice-aggregate-take-out
-slice-aggregate-take-out c = search needs
+slice-aggregate-tell : tie.Need-slice-aggregate-tell
+slice-aggregate-tell c = search needs
 
 among-requires : tie.Need-among-requires
 among-requires c κs = search needs
 
-take-out-requires : tie.Need-take-out-requires
-take-out-requires c κs = search needs
+tell-requires : tie.Need-tell-requires
+tell-requires c κs = search needs
 
-slice-aggregate-put-in : tie.Need-slice-aggregate-put-in
-slice-aggregate-put-in c = search needs
+slice-aggregate-tell-2 : tie.Need-slice-aggregate-tell-2
+slice-aggregate-tell-2 c = search needs
 
 among-requires-2 : tie.Need-among-requires-2
 among-requires-2 c κs = search needs
 
-put-in-requires : tie.Need-put-in-requires
-put-in-requires c κs = search needs
+tell-requires-2 : tie.Need-tell-requires-2
+tell-requires-2 c κs = search needs
 
 returns : tie.Need-returns
 returns c = search (heard-told, needs)
@@ -41,10 +41,10 @@ heard-after-spec =
     held-after-requires
     missing-after-requires
     open-at-requires
-    slice-aggregate-take-out
+    slice-aggregate-tell
     among-requires
-    take-out-requires
-    slice-aggregate-put-in
+    tell-requires
+    slice-aggregate-tell-2
     among-requires-2
-    put-in-requires
+    tell-requires-2
     returns)

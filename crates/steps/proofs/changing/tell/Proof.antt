@@ -2,18 +2,17 @@
 use Prim.Native.Nat.{_≤_}
 use mathlib.Core.Path.{_≡_, refl}
 use lib.ListN.{length}
-use Rattle.marks.specs.Masks.{markOf}
-use Rattle.steps.specs.Columns.{changedAt}
+use Rattle.steps.specs.Columns.{changedAt, toldSet}
 use Rattle.steps.proofs.ChangeLaws.{fewer-left, changed-turn, changed-done}
 use borrow.Author.Needs.{needs}
-use Rattle.steps.proofs.changing.put_in.Statement.{statement}
-use Rattle.steps.proofs.changing.put_in.Tie as tie
+use Rattle.steps.proofs.changing.tell.Statement.{statement}
+use Rattle.steps.proofs.changing.tell.Tie as tie
 
 abbrev Inv-loop : tie.InvT-loop
-Inv-loop sets₀ messages p i rest₀ sets rest = (length sets ≡ 64) × (length sets₀ ≡ 64) × (p ≤ 1000000000000) × (changedAt (λ set. markOf set i) rest p sets ≡ changedAt (λ set. markOf set i) messages p sets₀)
+Inv-loop sets₀ messages p i complains rest₀ sets rest = (length sets ≡ 64) × (length sets₀ ≡ 64) × (p ≤ 1000000000000) × (changedAt (toldSet complains i) rest p sets ≡ changedAt (toldSet complains i) messages p sets₀)
 
 abbrev μ-loop : tie.MeasureT-loop
-μ-loop sets₀ messages p i rest₀ sets rest = rest
+μ-loop sets₀ messages p i complains rest₀ sets rest = rest
 
 loop-holds : tie.Need-loop-holds Inv-loop μ-loop
 loop-holds c = (search needs, search needs, search needs, refl)
@@ -30,8 +29,8 @@ mul-set c = search needs
 slice-read-set : tie.Need-slice-read-set Inv-loop μ-loop
 slice-read-set c = search needs
 
-mark-requires : tie.Need-mark-requires Inv-loop μ-loop
-mark-requires c κs = search needs
+told-set-requires : tie.Need-told-set-requires Inv-loop μ-loop
+told-set-requires c κs = search needs
 
 mul-sets : tie.Need-mul-sets Inv-loop μ-loop
 mul-sets c = search needs
@@ -54,8 +53,8 @@ same-length c = search needs
 returns : tie.Need-returns Inv-loop μ-loop
 returns c = search changed-done
 
-pub put-in-spec : {M : Type 1} → statement M
-put-in-spec =
+pub tell-spec : {M : Type 1} → statement M
+tell-spec =
     tie.close
     (tie.spec
     Inv-loop
@@ -65,7 +64,7 @@ put-in-spec =
     add-at
     mul-set
     slice-read-set
-    mark-requires
+    told-set-requires
     mul-sets
     slice-write-sets
     without-first-requires
