@@ -2,6 +2,7 @@
 mod cluster;
 mod points;
 mod totals;
+mod weighing;
 
 pub use cluster::ClusterAnswer;
 pub use cluster::cluster_refusal;

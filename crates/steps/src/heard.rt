@@ -29,8 +29,10 @@ pub(crate) fn heard_after(words: &[u64; 457], h: Hearing, p: u64, n: u64) -> [u6
 {
     let held = marks::held_after(p, h.number, h.mask);
     let missing = missing_after(h, p);
+    let holds = marks::among(held, 0, n);
+    let lacks = marks::among(missing & !held, 0, n);
     let mut sets = open_at(words, 393, p, n);
-    tell(&mut sets, marks::among(held, 0, n), p, h.member, false);
-    tell(&mut sets, marks::among(missing & !held, 0, n), p, h.member, true);
+    tell(&mut sets, holds, p, h.member, false);
+    tell(&mut sets, lacks, p, h.member, true);
     sets
 }

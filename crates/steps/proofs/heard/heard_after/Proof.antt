@@ -10,23 +10,23 @@ held-after-requires c κs = search needs
 missing-after-requires : tie.Need-missing-after-requires
 missing-after-requires c κs = search needs
 
+among-requires : tie.Need-among-requires
+among-requires c κs = search needs
+
+among-requires-2 : tie.Need-among-requires-2
+among-requires-2 c κs = search needs
+
 open-at-requires : tie.Need-open-at-requires
 open-at-requires c κs = search needs
 
 slice-aggregate-tell : tie.Need-slice-aggregate-tell
 slice-aggregate-tell c = search needs
 
-among-requires : tie.Need-among-requires
-among-requires c κs = search needs
-
 tell-requires : tie.Need-tell-requires
 tell-requires c κs = search needs
 
 slice-aggregate-tell-2 : tie.Need-slice-aggregate-tell-2
 slice-aggregate-tell-2 c = search needs
-
-among-requires-2 : tie.Need-among-requires-2
-among-requires-2 c κs = search needs
 
 tell-requires-2 : tie.Need-tell-requires-2
 tell-requires-2 c κs = search needs
@@ -40,11 +40,11 @@ heard-after-spec =
     (tie.spec
     held-after-requires
     missing-after-requires
+    among-requires
+    among-requires-2
     open-at-requires
     slice-aggregate-tell
-    among-requires
     tell-requires
     slice-aggregate-tell-2
-    among-requires-2
     tell-requires-2
     returns)

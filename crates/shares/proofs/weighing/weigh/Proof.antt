@@ -6,10 +6,10 @@ use lib.ListN.{length, getD}
 use Rattle.basics.specs.Sums.{sumBelow, allBelow}
 use Rattle.shares.specs.Shares.{totalOf}
 use Rattle.shares.specs.Cluster.{isShare, sharesFit}
-use Rattle.shares.proofs.ClusterLaws.{bits-turn, bits-done, total-turn, total-done}
+use Rattle.shares.proofs.WeighLaws.{bits-turn, bits-done, total-turn, total-done}
 use borrow.Author.Needs.{needs}
-use Rattle.shares.proofs.cluster.weigh.Statement.{statement}
-use Rattle.shares.proofs.cluster.weigh.Tie as tie
+use Rattle.shares.proofs.weighing.weigh.Statement.{statement}
+use Rattle.shares.proofs.weighing.weigh.Tie as tie
 
 abbrev Inv-loop : tie.InvT-loop
 Inv-loop shares bits₀ total₀ i₀ bits total i = (i ≤ length shares) × (ltb bits 2147483648 ≡ allBelow i (λ j. isShare (getD shares j 0))) × (total ≡ sumBelow i (λ j. getD shares j 0) % 4294967296)

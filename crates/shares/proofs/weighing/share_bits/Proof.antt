@@ -1,8 +1,8 @@
 -- Bit 31 of either difference is set where the share is not allowed.
-use Rattle.shares.proofs.ClusterLaws.{share-told}
+use Rattle.shares.proofs.WeighLaws.{share-told}
 use borrow.Author.Needs.{needs}
-use Rattle.shares.proofs.cluster.share_bits.Statement.{statement}
-use Rattle.shares.proofs.cluster.share_bits.Tie as tie
+use Rattle.shares.proofs.weighing.share_bits.Statement.{statement}
+use Rattle.shares.proofs.weighing.share_bits.Tie as tie
 
 one-less-requires : tie.Need-one-less-requires
 one-less-requires c κs = search needs

@@ -1,8 +1,8 @@
 -- Four shares' bits, and their sum counted round.
-use Rattle.shares.proofs.ClusterLaws.{bits-four, total-four}
+use Rattle.shares.proofs.WeighLaws.{bits-four, total-four}
 use borrow.Author.Needs.{needs}
-use Rattle.shares.proofs.cluster.weigh_four.Statement.{statement}
-use Rattle.shares.proofs.cluster.weigh_four.Tie as tie
+use Rattle.shares.proofs.weighing.weigh_four.Statement.{statement}
+use Rattle.shares.proofs.weighing.weigh_four.Tie as tie
 
 shared-slice-read-share-bits : tie.Need-shared-slice-read-share-bits
 shared-slice-read-share-bits c = search needs

@@ -1,8 +1,8 @@
 -- The branch is the one of the definition.
 use Rattle.basics.proofs.BoolLaws.{branches}
 use borrow.Author.Needs.{needs}
-use Rattle.shares.proofs.cluster.one_less.Statement.{statement}
-use Rattle.shares.proofs.cluster.one_less.Tie as tie
+use Rattle.shares.proofs.weighing.one_less.Statement.{statement}
+use Rattle.shares.proofs.weighing.one_less.Tie as tie
 
 sub-result : tie.Need-sub-result
 sub-result c = search needs

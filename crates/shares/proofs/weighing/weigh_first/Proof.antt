@@ -1,8 +1,8 @@
 -- Four shares, or none.
-use Rattle.shares.proofs.ClusterLaws.{bits-of, total-of, bits-start, total-start}
+use Rattle.shares.proofs.WeighLaws.{bits-of, total-of, bits-start, total-start}
 use borrow.Author.Needs.{needs}
-use Rattle.shares.proofs.cluster.weigh_first.Statement.{statement}
-use Rattle.shares.proofs.cluster.weigh_first.Tie as tie
+use Rattle.shares.proofs.weighing.weigh_first.Statement.{statement}
+use Rattle.shares.proofs.weighing.weigh_first.Tie as tie
 
 weigh-four-requires : tie.Need-weigh-four-requires
 weigh-four-requires c κs = search needs

@@ -1,9 +1,9 @@
 -- The branch is the one of the definition.
 use Rattle.basics.proofs.BoolLaws.{branches}
-use Rattle.shares.proofs.ClusterLaws.{limit-past}
+use Rattle.shares.proofs.WeighLaws.{limit-past}
 use borrow.Author.Needs.{needs}
-use Rattle.shares.proofs.cluster.limit_less.Statement.{statement}
-use Rattle.shares.proofs.cluster.limit_less.Tie as tie
+use Rattle.shares.proofs.weighing.limit_less.Statement.{statement}
+use Rattle.shares.proofs.weighing.limit_less.Tie as tie
 
 sub-result : tie.Need-sub-result
 sub-result c = search needs
