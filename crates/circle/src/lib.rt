@@ -1,4 +1,6 @@
 // The circle of L units on which resends walk: the divisor, the two layouts, and resends counted from the original sender.
+#![tactic(auto)]
+
 mod euclid;
 mod stretches;
 mod table;

@@ -4,7 +4,7 @@ ghost use Rattle.shares.specs.Shares.{total_of};
 ghost use Rattle.circle.specs.Stretches.{scaled, end_of, place_of, same_place, following, moved_of};
 
 // Where a unit lies: its owner, and the units left of the owner's stretch, the unit itself among them.
-#[derive(Drop)]
+#[derive(Clone, Copy)]
 pub struct Place {
     pub member: u32,
     pub left: u64,

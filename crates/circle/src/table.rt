@@ -7,7 +7,7 @@ use crate::stretches::{Place, member_after, stretch};
 use crate::walk::{Circle, Position, circle_of, is_same, next, start};
 
 // A resend's two ends.
-#[derive(Drop)]
+#[derive(Clone, Copy)]
 pub struct Ends {
     pub sender: u32,
     pub receiver: u32,

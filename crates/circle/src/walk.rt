@@ -6,7 +6,7 @@ use crate::euclid::multiple;
 use crate::stretches::{Place, is_same_place, locate, moved, stretch_end};
 
 // L and the two scale factors.
-#[derive(Drop)]
+#[derive(Clone, Copy)]
 pub struct Circle {
     pub units: u64,
     pub send: u64,
@@ -14,14 +14,14 @@ pub struct Circle {
 }
 
 // Where a resend's first unit lies in the two layouts.
-#[derive(Drop)]
+#[derive(Clone, Copy)]
 pub struct Position {
     pub sender: Place,
     pub receiver: Place,
 }
 
 // A resend: its two ends and its run.
-#[derive(Drop)]
+#[derive(Clone, Copy)]
 pub struct Resend {
     pub sender: u32,
     pub receiver: u32,

@@ -6,7 +6,7 @@ ghost use Rattle.deal.specs.Dealing.{takers_before, Dealing, Fallen};
 use crate::slots::{spot_of, takes_slot};
 
 // A place in the deal: a slot, a round, and a member from which on it may fall to someone.
-#[derive(Drop)]
+#[derive(Clone, Copy)]
 pub struct Dealer {
     pub slot: u32,
     pub round: u32,

@@ -1,4 +1,6 @@
 // Dealing first copies: the deal in rounds, and the first copy's two ends.
+#![tactic(auto)]
+
 mod dealer;
 mod pairs;
 mod slots;

@@ -7,7 +7,7 @@ ghost use Rattle.deal.specs.Pairs.{sender_of, receiver_of, pair_refusal, first_p
 use crate::dealer::{dealer_at, fallen};
 
 // A refusal and zeros, or 0 and the first copy's two ends.
-#[derive(Drop)]
+#[derive(Clone, Copy)]
 pub struct PairAnswer {
     pub refusal: u32,
     pub sender: u32,

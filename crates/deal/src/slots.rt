@@ -4,14 +4,14 @@ ghost use Rattle.deal.specs.Rounds.{slots_before};
 ghost use Rattle.deal.specs.Dealing.{takers_before};
 
 // A round: how many slots the rounds before it have, and how many members take one in it.
-#[derive(Drop)]
+#[derive(Clone, Copy)]
 struct Round {
     before: u32,
     takers: u32,
 }
 
 // Where a slot lies: in a round, after so many others of it.
-#[derive(Drop)]
+#[derive(Clone, Copy)]
 pub(crate) struct Spot {
     pub(crate) round: u32,
     pub(crate) place: u32,

@@ -1,5 +1,7 @@
 // All that belongs to one receiving cluster: its members' reports, the collecting point, and an entry for each open message; and when
 // it is well formed.
+#![tactic(auto)]
+
 mod columns;
 mod formed;
 mod rows;

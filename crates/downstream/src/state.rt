@@ -1,7 +1,7 @@
 // What is kept of a cluster, a report and an open message, as structs by value.
 
 // A cluster as the state keeps it: share places past its members are zero.
-#[derive(Drop)]
+#[derive(Clone, Copy)]
 pub struct Cluster {
     pub members: u32,
     pub u: u32,
@@ -10,7 +10,7 @@ pub struct Cluster {
 }
 
 // The latest report of a member: cumulative number and mask, and whether it has reported at all.
-#[derive(Drop)]
+#[derive(Clone, Copy)]
 pub struct Report {
     pub number: u64,
     pub mask: u64,
@@ -18,14 +18,14 @@ pub struct Report {
 }
 
 // What is kept of an open message: how often it was sent again, and the set of members that complain of it.
-#[derive(Drop)]
+#[derive(Clone, Copy)]
 pub struct Entry {
     pub count: u32,
     pub complaints: u64,
 }
 
 // All that belongs to one receiving cluster.
-#[derive(Drop)]
+#[derive(Clone, Copy)]
 pub struct Downstream {
     pub cluster: Cluster,
     pub point: u64,

@@ -2,7 +2,7 @@
 ghost use Rattle.std.specs.Prelude.{◌≡◌, ◌+◌, ◌*◌, ◌/◌, ◌%◌, ◌≤◌, ◌<◌};
 
 // A quotient: how often a number goes into another as a whole, and what is left of that.
-#[derive(Drop)]
+#[derive(Clone, Copy)]
 pub(crate) struct Quotient {
     pub(crate) whole: u32,
     pub(crate) left: u32,

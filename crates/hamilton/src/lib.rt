@@ -1,4 +1,6 @@
 // Hamilton's method: how many of a quantum's messages each member is dealt.
+#![tactic(auto)]
+
 mod counting;
 mod division;
 mod quotas;

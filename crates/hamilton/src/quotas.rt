@@ -15,7 +15,7 @@ fn key(remainder: u32, d: u32, i: usize) -> u32
 }
 
 // What a member comes to: its lower quota, and its place in the order.
-#[derive(Drop)]
+#[derive(Clone, Copy)]
 struct Standing {
     quota: u32,
     key: u32,

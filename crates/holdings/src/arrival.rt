@@ -7,7 +7,7 @@ use basics::{is_message, wide};
 use marks::{mark, past, run};
 
 // The refusal's number, or 0, and the holdings after the arrival.
-#[derive(Drop)]
+#[derive(Clone, Copy)]
 pub struct ArrivalAnswer {
     pub refusal: u32,
     pub holdings: Holdings,

@@ -1,4 +1,6 @@
 // Holdings: what one receiving member holds, altered by each message that arrives.
+#![tactic(auto)]
+
 mod arrival;
 mod state;
 

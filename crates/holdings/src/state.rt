@@ -5,14 +5,14 @@ ghost use Rattle.holdings.specs.State.{fresh_holdings, well_formed, report_of};
 use marks::{is_marked, none_above};
 
 // Every message up to `number` is held, and bit b of `mask` speaks of message number + 1 + b.
-#[derive(Drop)]
+#[derive(Clone, Copy)]
 pub struct Holdings {
     pub number: u64,
     pub mask: u64,
 }
 
 // A report, or the number 17 and zeros.
-#[derive(Drop)]
+#[derive(Clone, Copy)]
 pub struct ReportAnswer {
     pub refusal: u32,
     pub number: u64,

@@ -3,7 +3,7 @@ ghost use Rattle.std.specs.Prelude.{◌≡◌, ◌++◌, ◌+◌, ◌/◌, ◌<�
 ghost use Rattle.input.specs.Input.{is_kind, number_at, is_share, shares_from, in_order, build_of, shares_at, numbers_of};
 
 // The numbers beside the shares: u and r of the sending cluster, u and r of the receiving cluster, quantum and message.
-#[derive(Drop)]
+#[derive(Clone, Copy)]
 pub struct Numbers {
     pub su: u32,
     pub sr: u32,
@@ -14,7 +14,7 @@ pub struct Numbers {
 }
 
 // Whether an input is well built, and how many sending and receiving shares it then has; otherwise zeros.
-#[derive(Drop)]
+#[derive(Clone, Copy)]
 pub struct Build {
     pub built: bool,
     pub senders: usize,

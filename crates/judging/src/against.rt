@@ -19,7 +19,7 @@ pub(crate) fn complainers(complaints: &[u64; 64]) -> u64
 
 // A set of members and its share. Messages that were sent one after another mostly have the same complaint set, so the last one that was
 // weighed is remembered.
-#[derive(Drop)]
+#[derive(Clone, Copy)]
 pub(crate) struct Weighed {
     pub members: u64,
     pub share: u64,

@@ -7,7 +7,7 @@ use downstream::{Downstream, Entry, Report, numbers_of, point_from};
 
 // What a report says, as every entry's step reads it: who reports what, the highest message that it holds, and whether the member repeats
 // its number where that is the point.
-#[derive(Drop)]
+#[derive(Clone, Copy)]
 pub struct Hearing {
     pub member: u32,
     pub number: u64,

@@ -1,4 +1,6 @@
 // What a report changes at the receiving cluster, and which verdicts are then due.
+#![tactic(auto)]
+
 mod against;
 mod complaints;
 mod due;

@@ -1,4 +1,6 @@
 // The plan's lines as text: a refusal, the header with the first copy, and the resends.
+#![tactic(auto)]
+
 mod digits;
 mod lines;
 mod text;

@@ -1,4 +1,6 @@
 // The calls as C and Rust see them: plain numbers, lent slices and lent arrays of fixed length.
+#![tactic(auto)]
+
 mod deals;
 mod link_records;
 mod members;

@@ -1,5 +1,7 @@
 // Marks: a 64-bit mask as a set of bits, and what a cumulative number and a mask say is held.
 // No shift by 64 or more can occur: each function that shifts has its own answer for what lies past the mask.
+#![tactic(auto)]
+
 mod held;
 mod masks;
 

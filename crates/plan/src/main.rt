@@ -1,4 +1,6 @@
 // The plan program: reads what is asked for from standard input, and prints the plan.
+#![tactic(auto)]
+
 use libc::{STDIN_FILENO, STDOUT_FILENO};
 
 fn main() {

@@ -1,4 +1,6 @@
 // Link records of 24 bytes, read and written: any bytes at all are read, and what is written reads back.
+#![tactic(auto)]
+
 mod reading;
 mod writing;
 
@@ -6,7 +8,7 @@ pub use reading::read;
 pub use writing::write;
 
 // What a record says. Of a private one its kind alone: its contents are not read.
-#[derive(Drop)]
+#[derive(Clone, Copy)]
 pub enum Record {
     Unused,
     Report { member: u8, number: u64, mask: u64 },
@@ -14,7 +16,7 @@ pub enum Record {
     Private { kind: u8 },
 }
 
-#[derive(Drop)]
+#[derive(Clone, Copy)]
 pub enum Refusal {
     WrongLength,
     WrongKind,
@@ -22,13 +24,13 @@ pub enum Refusal {
     ShortOutput,
 }
 
-#[derive(Drop)]
+#[derive(Clone, Copy)]
 pub enum ReadAnswer {
     Is(Record),
     Refused(Refusal),
 }
 
-#[derive(Drop)]
+#[derive(Clone, Copy)]
 pub enum WriteAnswer {
     Written,
     Denied(Refusal),

@@ -3,7 +3,7 @@ ghost use Rattle.std.specs.Prelude.{◌≡◌};
 ghost use Rattle.resend.specs.Resends.{resend_refusal, resend_pair_of};
 
 // A refusal and zeros, or 0, the resend's two ends and its run.
-#[derive(Drop)]
+#[derive(Clone, Copy)]
 pub struct ResendAnswer {
     pub refusal: u32,
     pub sender: u32,

@@ -4,7 +4,7 @@ ghost use Rattle.std.specs.Prelude.{◌≡◌, ◌-◌, ◌≤◌, if◌then◌e
 use crate::input;
 
 // A cluster as a case gives it, accepted or not.
-#[derive(Drop)]
+#[derive(Clone, Copy)]
 pub struct Side {
     pub members: usize,
     pub u: u32,
@@ -12,7 +12,7 @@ pub struct Side {
     pub shares: [u32; 100],
 }
 
-#[derive(Drop)]
+#[derive(Clone, Copy)]
 pub struct Sides {
     pub sending: Side,
     pub receiving: Side,

@@ -4,7 +4,7 @@ use script::sides::{Sides, no_sides};
 use window::Window;
 
 // The window that calls change, and one that is kept to start from again.
-#[derive(Drop)]
+#[derive(Clone, Copy)]
 pub struct Bench {
     pub sides: Sides,
     pub window: Window,

@@ -7,6 +7,8 @@
 // from its table and its orders. Those of arrive-at and holds-well, and three of arrive, come from a second model, which follows the
 // document's sentences but was written with the library's code known. Cases are lines and not code, so that another one costs no
 // proof.
+#![tactic(auto)]
+
 mod bench;
 mod edits;
 mod lent;

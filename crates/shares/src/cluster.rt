@@ -13,7 +13,7 @@ fn bounds_fit(d: u32, u: u32, r: u32) -> bool
 }
 
 // A refusal, 0 for none, and the total share, counted round: with no refusal that is the total itself.
-#[derive(Drop)]
+#[derive(Clone, Copy)]
 pub struct ClusterAnswer {
     pub refusal: u32,
     pub total: u32,

@@ -1,4 +1,6 @@
 // Clusters: which are accepted, the share of a set of members, and the point that members' values reach by share.
+#![tactic(auto)]
+
 mod cluster;
 mod points;
 mod totals;

@@ -41,7 +41,7 @@ fn rounded_sum(t: u32, x: u32) -> u32
 }
 
 // What one pass tells of shares: bits of which the highest tells whether all are allowed, and their total where they are.
-#[derive(Drop)]
+#[derive(Clone, Copy)]
 pub(crate) struct Weighed {
     pub(crate) bits: u32,
     pub(crate) total: u32,

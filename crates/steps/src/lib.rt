@@ -1,4 +1,6 @@
 // The steps of an accepted report in the lent words of the state: what they need is read first, and only what changes is put.
+#![tactic(auto)]
+
 mod changing;
 mod columns;
 mod deciding;

@@ -9,6 +9,8 @@
 // then read against the table. The document does not name the small functions: what they are to answer is what stands above each
 // of them. Cases are lines and not code, so that another one costs no proof. Functions that ask something of their caller are not
 // here: a line could not be held to it.
+#![tactic(auto)]
+
 mod bytes;
 mod circles;
 mod clusters;

@@ -1,4 +1,6 @@
 // The sending window: opening, sending and reports, on a state that may hold any values at all.
+#![tactic(auto)]
+
 mod formed;
 mod opening;
 mod refusing;

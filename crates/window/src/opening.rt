@@ -6,7 +6,7 @@ use crate::state::Window;
 use downstream::{Cluster, Downstream, Entry, Report};
 
 // The number of the refusal, 0 for none, and the state: of zeros where the opening is refused.
-#[derive(Drop)]
+#[derive(Clone, Copy)]
 pub struct OpenAnswer {
     pub refusal: u32,
     pub window: Window,

@@ -9,7 +9,7 @@ use crate::state::Window;
 use downstream::{Cluster, Downstream, Report};
 
 // The number of the refusal, 0 for none, how many verdicts were written, and the next state.
-#[derive(Drop)]
+#[derive(Clone, Copy)]
 pub struct ReportAnswer {
     pub refusal: u32,
     pub verdicts: u32,
@@ -47,7 +47,7 @@ fn report_refusal(w: Window, i: u32, c: u64, mask: u64, room: usize) -> u32
 }
 
 // What an accepted report does to all that belongs to the receiving cluster.
-#[derive(Drop)]
+#[derive(Clone, Copy)]
 pub struct Step {
     pub verdicts: u32,
     pub downstream: Downstream,

@@ -4,7 +4,7 @@ ghost use Rattle.window.specs.Sending.{next_refusal, send_refusal, send_of};
 
 use crate::state::Window;
 
-#[derive(Drop)]
+#[derive(Clone, Copy)]
 pub struct SendAnswer {
     pub refusal: u32,
     pub window: Window,

@@ -1,4 +1,6 @@
 // The window's state as 457 words of 64 bits: what a unit writes to its disk and reads back after a power cut.
+#![tactic(auto)]
+
 mod clusters;
 mod entries;
 mod judging;
