@@ -1,17 +1,16 @@
--- The invariant: the table holds the first j steps, `at` is where step j starts, and the turn is not whole yet.
-use Prim.Native.Nat.{◌+◌, ◌-◌}
+-- The invariant: the table holds the first j steps, and `at` is where step j starts.
+use Prim.Native.Nat.{◌+◌, ◌-◌, ◌≤◌}
 use mathlib.Core.Path.{◌≡◌}
 use lib.ListN.{length}
-use Rattle.circle.specs.Positions.{Sized, position_of}
+use Rattle.circle.specs.Positions.{position_of}
 use Rattle.circle.specs.TurnTable.{FirstSteps}
-use Rattle.circle.proofs.WholeTurn.{Short, short_first}
-use Rattle.circle.proofs.TableLaws.{turn_back, turn_on}
+use Rattle.circle.proofs.TableLaws.{turn_back, turn_none}
 use borrow.Author.Rules.{rules}
 use Rattle.circle.proofs.table.fill_turn.Statement.{statement}
 use Rattle.circle.proofs.table.fill_turn.Tie as tie
 
 abbrev invariant-loop : tie.invariant-loop
-invariant-loop ss rs senders₀ receivers₀ begins₀ c first at₀ j₀ senders receivers begins at j = (Sized ss) × (Sized rs) × (length senders ≡ length senders₀) × (length receivers ≡ length receivers₀) × (length begins ≡ length begins₀) × (first ≡ position_of ss rs (length ss - 1) 1) × (at ≡ position_of ss rs (length ss - 1) (j + 1)) × FirstSteps ss rs senders receivers begins j × Short ss rs j
+invariant-loop ss rs senders₀ receivers₀ begins₀ c first at₀ j₀ senders receivers begins at j = (j ≤ 128) × (length senders ≡ length senders₀) × (length receivers ≡ length receivers₀) × (length begins ≡ length begins₀) × (first ≡ position_of ss rs (length ss - 1) 1) × (at ≡ position_of ss rs (length ss - 1) (j + 1)) × FirstSteps ss rs senders receivers begins j
 
 abbrev decreases-loop : tie.decreases-loop
 decreases-loop ss rs senders₀ receivers₀ begins₀ c first at₀ j₀ senders receivers begins at j = 128 - j
@@ -26,7 +25,7 @@ start-requires : tie.Need-start-requires invariant-loop decreases-loop
 start-requires c κs = search rules
 
 loop-holds : tie.Need-loop-init invariant-loop decreases-loop
-loop-holds c = (search rules, search rules, search rules, search rules, search rules, search rules, search rules, search rules, search short_first)
+loop-holds c = search rules
 
 put-step-requires : tie.Need-put-step-requires invariant-loop decreases-loop
 put-step-requires c κs = search rules
@@ -53,7 +52,19 @@ loop-less : tie.Need-loop-smaller invariant-loop decreases-loop
 loop-less c = search rules
 
 loop-again : tie.Need-loop-preserved invariant-loop decreases-loop
-loop-again c = (search rules, search rules, search rules, search rules, search rules, search rules, search rules, search rules, search turn_on)
+loop-again c = (search rules, search rules, search rules, search rules, search rules, search rules, search rules)
+
+same-length-4 : tie.Need-same-length-4 invariant-loop decreases-loop
+same-length-4 c = search rules
+
+same-length-5 : tie.Need-same-length-5 invariant-loop decreases-loop
+same-length-5 c = search rules
+
+same-length-6 : tie.Need-same-length-6 invariant-loop decreases-loop
+same-length-6 c = search rules
+
+returns-2 : tie.Need-returns-2 invariant-loop decreases-loop
+returns-2 c = search turn_none
 
 pub fill-turn-spec : {M : Type 1} → statement M
 fill-turn-spec =
@@ -73,4 +84,8 @@ fill-turn-spec =
     same-length-3
     returns
     loop-less
-    loop-again)
+    loop-again
+    same-length-4
+    same-length-5
+    same-length-6
+    returns-2)

@@ -13,7 +13,7 @@ use Rattle.hamilton.proofs.quotas.fill_quotas.Statement.{statement}
 use Rattle.hamilton.proofs.quotas.fill_quotas.Tie as tie
 
 abbrev invariant-loop : tie.invariant-loop
-invariant-loop shares q d keys₀ out₀ inverse rest₀ i₀ keys out rest i = (i ≤ length shares)
+invariant-loop shares q d keys₀ out₀ rest₀ i₀ keys out rest i = (i ≤ length shares)
     × (rest + sum_below i (quota_of shares q) ≡ q)
     × (length out ≡ length out₀)
     × (out ≡ list_below i (quota_of shares q) ++ drop i out₀)
@@ -21,28 +21,31 @@ invariant-loop shares q d keys₀ out₀ inverse rest₀ i₀ keys out rest i = 
     × (keys ≡ list_below i (key shares q) ++ drop i keys₀)
 
 abbrev decreases-loop : tie.decreases-loop
-decreases-loop shares q d keys₀ out₀ inverse rest₀ i₀ keys out rest i = length shares - i
-
-inverse-for-requires : tie.Need-inverse-for-requires invariant-loop decreases-loop
-inverse-for-requires c κs = search rules
+decreases-loop shares q d keys₀ out₀ rest₀ i₀ keys out rest i = length shares - i
 
 loop-holds : tie.Need-loop-init invariant-loop decreases-loop
 loop-holds c = (search rules, search undealt_start, search rules, search list_start, search rules, search list_start)
 
-mul-standing-of : tie.Need-overflow-mul-standing-of invariant-loop decreases-loop
-mul-standing-of c = search rules
+mul-times : tie.Need-overflow-mul-times invariant-loop decreases-loop
+mul-times c = search rules
 
-shared-slice-read-standing-of : tie.Need-shared-slice-read-standing-of invariant-loop decreases-loop
-shared-slice-read-standing-of c = search rules
+shared-slice-read-times : tie.Need-shared-slice-read-times invariant-loop decreases-loop
+shared-slice-read-times c = search rules
 
-standing-of-requires : tie.Need-standing-of-requires invariant-loop decreases-loop
-standing-of-requires c κs = (search share_small, search rules, search rules, search rules, search rules, search rules)
+times-requires : tie.Need-times-requires invariant-loop decreases-loop
+times-requires c κs = (search share_small, search rules)
+
+div-low : tie.Need-nonzero-div-low invariant-loop decreases-loop
+div-low c = search rules
 
 mul-out : tie.Need-overflow-mul-out invariant-loop decreases-loop
 mul-out c = search rules
 
 slice-write-out : tie.Need-slice-write-out invariant-loop decreases-loop
 slice-write-out c = search rules
+
+key-requires : tie.Need-key-requires invariant-loop decreases-loop
+key-requires c κs = search rules
 
 mul-keys : tie.Need-overflow-mul-keys invariant-loop decreases-loop
 mul-keys c = search rules
@@ -77,13 +80,14 @@ fill-quotas-spec =
     (tie.spec
     invariant-loop
     decreases-loop
-    inverse-for-requires
     loop-holds
-    mul-standing-of
-    shared-slice-read-standing-of
-    standing-of-requires
+    mul-times
+    shared-slice-read-times
+    times-requires
+    div-low
     mul-out
     slice-write-out
+    key-requires
     mul-keys
     slice-write-keys
     sub-rest

@@ -6,7 +6,7 @@ use lib.ListN.{length, get_or}
 use Rattle.basics.specs.Sums.{sum_below, all_below}
 use Rattle.shares.specs.Shares.{total_of}
 use Rattle.shares.specs.Cluster.{is_share, shares_fit}
-use Rattle.shares.proofs.WeighLaws.{bits_start, bits_turn, bits_done, total_start, total_turn, total_done}
+use Rattle.shares.proofs.WeighLaws.{bits_turn, bits_done, total_turn, total_done}
 use borrow.Author.Rules.{rules}
 use Rattle.shares.proofs.weighing.weigh.Statement.{statement}
 use Rattle.shares.proofs.weighing.weigh.Tie as tie
@@ -17,8 +17,11 @@ invariant-loop shares bits₀ total₀ i₀ bits total i = (i ≤ length shares)
 abbrev decreases-loop : tie.decreases-loop
 decreases-loop shares bits₀ total₀ i₀ bits total i = length shares - i
 
+weigh-first-requires : tie.Need-weigh-first-requires invariant-loop decreases-loop
+weigh-first-requires c κs = search rules
+
 loop-holds : tie.Need-loop-init invariant-loop decreases-loop
-loop-holds c = (search rules, search bits_start, search total_start)
+loop-holds c = search rules
 
 mul-share-bits : tie.Need-overflow-mul-share-bits invariant-loop decreases-loop
 mul-share-bits c = search rules
@@ -57,6 +60,7 @@ weigh-spec =
     (tie.spec
     invariant-loop
     decreases-loop
+    weigh-first-requires
     loop-holds
     mul-share-bits
     shared-slice-read-share-bits

@@ -16,8 +16,17 @@ among-requires c κs = search rules
 among-requires-2 : tie.Need-among-requires-2
 among-requires-2 c κs = search rules
 
+open-at-requires : tie.Need-open-at-requires
+open-at-requires c κs = search rules
+
+slice-aggregate-tell : tie.Need-slice-aggregate-tell
+slice-aggregate-tell c = search rules
+
 tell-requires : tie.Need-tell-requires
 tell-requires c κs = search rules
+
+slice-aggregate-tell-2 : tie.Need-slice-aggregate-tell-2
+slice-aggregate-tell-2 c = search rules
 
 tell-requires-2 : tie.Need-tell-requires-2
 tell-requires-2 c κs = search rules
@@ -33,6 +42,9 @@ heard-after-spec =
     missing-after-requires
     among-requires
     among-requires-2
+    open-at-requires
+    slice-aggregate-tell
     tell-requires
+    slice-aggregate-tell-2
     tell-requires-2
     returns)

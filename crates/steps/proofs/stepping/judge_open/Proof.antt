@@ -1,6 +1,5 @@
 -- Where nothing is due the columns stay as the report left them.
 use Rattle.steps.proofs.StepLaws.{step_member, step_fit, step_highest, step_low, step_order, step_closed_counts, step_closed_sets, step_words, step_counts_stay, step_sets_stay, step_none, step_none_out}
-use Rattle.steps.proofs.ColumnLaws.{heard_open}
 use borrow.Author.Rules.{rules}
 use Rattle.steps.proofs.stepping.judge_open.Statement.{statement}
 use Rattle.steps.proofs.stepping.judge_open.Tie as tie
@@ -14,25 +13,20 @@ sub-n c = search (step_order, rules)
 open-at-requires : tie.Need-open-at-requires
 open-at-requires c κs = (search rules, search (step_closed_counts, rules))
 
-open-at-requires-2 : tie.Need-open-at-requires-2
-open-at-requires-2 c κs = (search rules, search (step_closed_sets, rules))
-
 heard-after-requires : tie.Need-heard-after-requires
-heard-after-requires c κs = (search (step_highest, rules), search (step_low, rules))
+heard-after-requires c κs = (search (step_highest, rules), search (step_low, rules), search (step_closed_sets, rules))
 
 due-after-requires : tie.Need-due-after-requires
-due-after-requires c κs = (search rules, search rules, heard_open _ _ _ _ _ _ _ _ _ c.before.before.before.heard-after.ensures (search rules))
+due-after-requires c κs = search rules
 
 put-step-requires : tie.Need-put-step-requires
 put-step-requires c κs = (search (step_fit, rules), search (step_member, rules))
 
 returns : tie.Need-returns
-returns c = (search (step_none, rules), search (step_words, step_counts_stay, step_sets_stay, heard_open, rules), search (step_none_out, rules))
+returns c = (search (step_none, rules), search (step_words, step_counts_stay, step_sets_stay, rules), search (step_none_out, rules))
 
 put-lost-requires : tie.Need-put-lost-requires
-put-lost-requires c κs =
-    let heard = c.before.before.before.before.before.before.before.before.before.heard-after.ensures in
-    (search rules, search rules, search rules, heard_open _ _ _ _ _ _ _ _ _ heard (search rules), search rules)
+put-lost-requires c κs = search rules
 
 same_length : tie.Need-same-length
 same_length c = search rules
@@ -47,7 +41,6 @@ judge-open-spec =
     element-copy-out-n
     sub-n
     open-at-requires
-    open-at-requires-2
     heard-after-requires
     due-after-requires
     put-step-requires

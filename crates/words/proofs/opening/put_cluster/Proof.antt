@@ -1,5 +1,5 @@
 -- A column, and three words before it.
-use Rattle.words.proofs.PutLaws.{cluster_put}
+use Rattle.words.proofs.PutLaws.{cluster_put, zeros_shares}
 use borrow.Author.Rules.{rules}
 use Rattle.words.proofs.opening.put_cluster.Statement.{statement}
 use Rattle.words.proofs.opening.put_cluster.Tie as tie
@@ -14,7 +14,7 @@ part-put-shares-end : tie.Need-slice-bounds-put-shares-end
 part-put-shares-end c = search rules
 
 put-shares-requires : tie.Need-put-shares-requires
-put-shares-requires c κs = search rules
+put-shares-requires c κs = (search rules, search rules, search zeros_shares)
 
 sub-put-three : tie.Need-overflow-sub-put-three
 sub-put-three c = search rules

@@ -1,5 +1,5 @@
--- Four parts, one behind the other.
-use Rattle.words.proofs.PutLaws.{opened_put}
+-- Three parts, put into zeros.
+use Rattle.words.proofs.PutLaws.{opened_put, zeros_first, zeros_second}
 use borrow.Author.Rules.{rules}
 use Rattle.words.proofs.opening.put_parts.Statement.{statement}
 use Rattle.words.proofs.opening.put_parts.Tie as tie
@@ -14,7 +14,7 @@ part-put-cluster-end : tie.Need-slice-bounds-put-cluster-end
 part-put-cluster-end c = search rules
 
 put-cluster-requires : tie.Need-put-cluster-requires
-put-cluster-requires c κs = search rules
+put-cluster-requires c κs = (search rules, search rules, search zeros_first)
 
 sub-put-cluster-2 : tie.Need-overflow-sub-put-cluster-2
 sub-put-cluster-2 c = search rules
@@ -26,7 +26,7 @@ part-put-cluster-end-2 : tie.Need-slice-bounds-put-cluster-end-2
 part-put-cluster-end-2 c = search rules
 
 put-cluster-requires-2 : tie.Need-put-cluster-requires-2
-put-cluster-requires-2 c κs = search rules
+put-cluster-requires-2 c κs = (search rules, search rules, search zeros_second)
 
 sub-put-three : tie.Need-overflow-sub-put-three
 sub-put-three c = search rules
@@ -39,18 +39,6 @@ part-put-three-end c = search rules
 
 put-three-requires : tie.Need-put-three-requires
 put-three-requires c κs = search rules
-
-sub-put-zeros : tie.Need-overflow-sub-put-zeros
-sub-put-zeros c = search rules
-
-part-put-zeros-start : tie.Need-slice-bounds-put-zeros-start
-part-put-zeros-start c = search rules
-
-part-put-zeros-end : tie.Need-slice-bounds-put-zeros-end
-part-put-zeros-end c = search rules
-
-put-zeros-requires : tie.Need-put-zeros-requires
-put-zeros-requires c κs = search rules
 
 same_length : tie.Need-same-length
 same_length c = search rules
@@ -74,9 +62,5 @@ put-parts-spec =
     part-put-three-start
     part-put-three-end
     put-three-requires
-    sub-put-zeros
-    part-put-zeros-start
-    part-put-zeros-end
-    put-zeros-requires
     same_length
     returns)
