@@ -1,0 +1,20 @@
+use Prim.Native.Nat.{◌≤◌, ◌-◌}
+use mathlib.Core.Path.{◌≡◌, refl}
+use mathlib.Core.List.{◌++◌}
+use lib.ListN.{length, drop, get_or, replicate}
+use Rattle.basics.specs.Sums.{list_below}
+use Rattle.basics.proofs.SumLaws.{list_start}
+use Rattle.downstream.specs.State.{no_entry, counts_of}
+use Rattle.downstream.proofs.ColumnLaws.{column_turn, column_done}
+use borrow.Author.Rules.{rules}
+use Rattle.downstream.proofs.columns.counts_of.Goals as goal
+
+pub loop-i-init : goal.loop-i-init
+loop-i-init c = (search rules, refl, search list_start)
+
+pub loop-i-preserved : goal.loop-i-preserved
+loop-i-preserved c = (search rules, search rules, search column_turn)
+
+pub returns : goal.returns
+unfolding counts_of
+returns c = search (column_done, rules)

@@ -1,0 +1,19 @@
+use Prim.Native.Nat.{◌≤◌, ◌-◌}
+use mathlib.Core.Path.{◌≡◌}
+use mathlib.Core.Bool.{not}
+use Rattle.marks.specs.Masks.{set_below}
+use Rattle.downstream.specs.State.{held_by}
+use Rattle.marks.proofs.SetLaws.{set_start, set_turn, set_done}
+use Rattle.downstream.specs.State.{lacking_of}
+use borrow.Author.Rules.{rules}
+use Rattle.downstream.proofs.columns.lacking.Goals as goal
+
+pub loop-i-init : goal.loop-i-init
+loop-i-init c = (search rules, search rules, search set_start)
+
+pub loop-i-preserved : goal.loop-i-preserved
+loop-i-preserved c = (search rules, search rules, search set_turn)
+
+pub returns : goal.returns
+unfolding lacking_of
+returns c = search set_done

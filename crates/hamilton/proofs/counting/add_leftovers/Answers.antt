@@ -1,0 +1,35 @@
+use Prim.Native.Nat.{◌≤◌, ◌-◌, ◌+◌}
+use mathlib.Core.Path.{◌≡◌}
+use mathlib.Core.Bool.{cond}
+use mathlib.Core.List.{◌++◌}
+use lib.Dec.{ltb}
+use lib.ListN.{length, get_or, drop, length-set}
+use Rattle.basics.specs.Sums.{list_below}
+use Rattle.basics.proofs.SumLaws.{list_start}
+use Rattle.hamilton.proofs.CountLaws.{list_done, unread_small, leftover_turn}
+use borrow.Author.Rules.{rules}
+use Rattle.hamilton.proofs.counting.add_leftovers.Goals as goal
+
+pub loop-i-init : goal.loop-i-init
+loop-i-init c = (search rules, search rules, search list_start)
+
+pub count-requires : goal.count-requires
+count-requires c = search (unread_small, c.requires.by_index, rules)
+
+pub loop-i-preserved : goal.loop-i-preserved
+loop-i-preserved c = (
+  search rules,
+  simp length-set (search rules),
+  leftover_turn
+      c.args.keys.now
+      c.args.end
+      c.loop-i.i
+      c.args.n
+      c.count.result
+      c.loop-i.out
+      c.args.out.now
+      (search rules) (search rules) (search rules) (search rules) c.count.ensures,
+)
+
+pub returns : goal.returns
+returns c = search list_done

@@ -1,0 +1,23 @@
+-- The invariant: quotas and keys stand before place i, what was there from it on, and `rest` and the quotas before place i are the quantum.
+use Prim.Native.Nat.{◌≤◌, ◌-◌, ◌+◌}
+use mathlib.Core.Path.{◌≡◌}
+use mathlib.Core.List.{◌++◌}
+use lib.ListN.{length, drop, length-set}
+use Rattle.basics.specs.Sums.{sum_below, list_below}
+use Rattle.basics.proofs.SumLaws.{list_start}
+use Rattle.hamilton.specs.Hamilton.{quota_of}
+use Rattle.hamilton.proofs.QuotaLaws.{key}
+use Rattle.hamilton.proofs.CountLaws.{list_next, list_done, share_small, quota_told, key_told, undealt_start, undealt_fits, undealt_turn, undealt_done}
+use borrow.Author.Rules.{rules}
+use Rattle.hamilton.proofs.quotas.fill_quotas.Given as goal
+
+abbrev pub invariant-loop-i : goal.invariant-loop-i
+invariant-loop-i l = (l.i ≤ length l.shares)
+    × (l.rest + sum_below l.i (quota_of l.shares l.q) ≡ l.q)
+    × (length l.out ≡ length l.initial.out)
+    × (l.out ≡ list_below l.i (quota_of l.shares l.q) ++ drop l.i l.initial.out)
+    × (length l.keys ≡ length l.initial.keys)
+    × (l.keys ≡ list_below l.i (key l.shares l.q) ++ drop l.i l.initial.keys)
+
+abbrev pub decreases-loop-i : goal.decreases-loop-i
+decreases-loop-i l = length l.shares - l.i

@@ -1,0 +1,20 @@
+use Prim.Native.Nat.{◌≤◌, ◌-◌, ◌*◌}
+use mathlib.Core.Path.{◌≡◌}
+use mathlib.Core.Bool.{cond}
+use lib.ListN.{length, get_or}
+use Rattle.basics.specs.Sums.{sum_below}
+use Rattle.basics.proofs.SumLaws.{sums}
+use Rattle.marks.specs.Masks.{is_marked}
+use Rattle.shares.specs.Shares.{share_of}
+use borrow.Author.Rules.{rules}
+use Rattle.shares.proofs.totals.marked_share.Goals as goal
+
+pub loop-i-init : goal.loop-i-init
+loop-i-init c = search sums
+
+pub loop-i-preserved : goal.loop-i-preserved
+loop-i-preserved c = search sums
+
+pub returns : goal.returns
+unfolding share_of
+returns c = (search sums, search rules)
