@@ -1,0 +1,6 @@
+-- Only the set changes.
+use borrow.Author.Rules.{rules}
+use Rattle.judging.proofs.complaints.complained.Goals as goal
+
+pub returns : goal.returns
+returns c = cc

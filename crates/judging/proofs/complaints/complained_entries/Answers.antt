@@ -1,0 +1,16 @@
+use Prim.Native.Nat.{◌≤◌, ◌-◌}
+use mathlib.Core.Path.{◌≡◌}
+use Rattle.marks.specs.Held.{highest_of}
+use Rattle.judging.specs.Complaints.{complained_entry, entries_after}
+use Rattle.judging.proofs.PlaceLaws.{entries_start, entries_turn, entries_done}
+use borrow.Author.Rules.{rules}
+use Rattle.judging.proofs.complaints.complained_entries.Goals as goal
+
+pub loop-o-init : goal.loop-o-init
+loop-o-init c = (search rules, search rules, search rules, search rules, search entries_start)
+
+pub loop-o-preserved : goal.loop-o-preserved
+loop-o-preserved c = (search rules, search rules, search rules, search rules, search entries_turn)
+
+pub returns : goal.returns
+returns c = search entries_done

@@ -1,0 +1,7 @@
+-- Two digits behind two.
+use Rattle.lines.proofs.DigitLaws.{four_put}
+use borrow.Author.Rules.{rules}
+use Rattle.lines.proofs.digits.put_four.Goals as goal
+
+pub returns : goal.returns
+returns c = search four_put

@@ -1,0 +1,14 @@
+-- The invariant: the first i bytes are copied, and the other places are as they were.
+use Rattle.lines.proofs.TextLaws.{bytes_start, bytes_turn, bytes_done}
+use Prim.Native.Nat.{◌≤◌, ◌-◌}
+use mathlib.Core.Path.{◌≡◌}
+use lib.ListN.{length}
+use lib.Seq.{paste}
+use borrow.Author.Rules.{rules}
+use Rattle.lines.proofs.text.put_bytes.Given as goal
+
+abbrev pub invariant-loop-i : goal.invariant-loop-i
+invariant-loop-i l = (l.i ≤ length l.bytes) × (length l.out ≡ length l.initial.out) × (l.out ≡ paste l.initial.out l.at l.bytes l.i)
+
+abbrev pub decreases-loop-i : goal.decreases-loop-i
+decreases-loop-i l = length l.bytes - l.i
