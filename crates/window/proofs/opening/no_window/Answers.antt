@@ -1,0 +1,6 @@
+-- The state that the two clusters give.
+use borrow.Author.Rules.{rules}
+use Rattle.window.proofs.opening.no_window.Goals as goal
+
+pub returns : goal.returns
+returns c = cc
