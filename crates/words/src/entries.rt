@@ -6,7 +6,7 @@ ghost use Rattle.words.specs.Taken.{column_at, entries_in};
 ghost use Rattle.words.specs.Straight.{any_in};
 ghost use Rattle.words.specs.Entries.{closed_zero, counts_kept, sets_told, sets_kept};
 
-use crate::judging::column_at;
+use crate::judgement::column_at;
 use crate::straight::{all_zero, any};
 
 // Whether a column of the entries is zero for every message that is not one of the n after p. Their places go round once: what is closed

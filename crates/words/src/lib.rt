@@ -3,7 +3,7 @@
 
 mod clusters;
 mod entries;
-mod judging;
+mod judgement;
 mod opening;
 mod point;
 mod reports;
@@ -11,7 +11,7 @@ mod sending;
 mod straight;
 mod taking;
 
-pub use judging::{column_at, formed};
+pub use judgement::{column_at, formed};
 pub use opening::{put_none, put_opened};
 pub use point::reached;
 pub use sending::put_sent;

@@ -1,0 +1,19 @@
+use Rattle.words.proofs.PointLaws.{reached_done}
+use Rattle.words.specs.Taken.{word_at, none_above}
+use Rattle.basics.specs.Sums.{sum_below}
+use Rattle.basics.proofs.SumLaws.{sums}
+use lib.Dec.{leb}
+use mathlib.Core.Bool.{true, cond}
+use mathlib.Core.Path.{◌≡◌}
+use Prim.Native.Nat.{◌≤◌, ◌-◌, ◌+◌, ◌*◌}
+use borrow.Author.Rules.{rules}
+use Rattle.words.proofs.point.reached.Goals as goal
+
+pub loop-i-init : goal.loop-i-init
+loop-i-init c = (search rules, search rules, search rules, search rules, search rules, search sums, search rules)
+
+pub loop-i-preserved : goal.loop-i-preserved
+loop-i-preserved c = (search rules, search rules, search rules, search rules, search rules, search sums, search rules)
+
+pub returns : goal.returns
+returns c = (search (reached_done, rules), search rules)

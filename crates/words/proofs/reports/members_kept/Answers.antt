@@ -1,0 +1,17 @@
+use Rattle.words.specs.Taken.{report_in}
+use Rattle.downstream.specs.Formed.{report_kept}
+use Rattle.basics.specs.Sums.{all_below}
+use Rattle.basics.proofs.SumLaws.{alls}
+use mathlib.Core.Path.{◌≡◌}
+use Prim.Native.Nat.{◌≤◌, ◌-◌}
+use borrow.Author.Rules.{rules}
+use Rattle.words.proofs.reports.members_kept.Goals as goal
+
+pub loop-i-init : goal.loop-i-init
+loop-i-init c = (search rules, search rules, search alls)
+
+pub loop-i-preserved : goal.loop-i-preserved
+loop-i-preserved c = (search rules, search rules, search alls)
+
+pub returns : goal.returns
+returns c = search alls

@@ -1,0 +1,25 @@
+use Prim.Native.Nat.{◌≤◌, ◌-◌, ◌+◌}
+use mathlib.Core.Path.{◌≡◌, refl}
+use mathlib.Core.Bool.{true}
+use mathlib.Core.List.{◌++◌}
+use lib.ListN.{length, drop, replicate}
+use Rattle.basics.specs.Sums.{list_below}
+use Rattle.basics.proofs.SumLaws.{list_start}
+use Rattle.words.specs.Taken.{word_at, fits, column_at}
+use Rattle.words.proofs.ColumnLaws.{fill_turn, fill_done}
+use Rattle.words.proofs.FitLaws.{share_at}
+use borrow.Author.Rules.{rules}
+use Rattle.words.proofs.taking.shares_at.Goals as goal
+
+pub loop-i-init : goal.loop-i-init
+loop-i-init c = (search rules, search rules, search rules, refl, search list_start)
+
+pub overflow_cast-shares : goal.overflow_cast-shares
+overflow_cast-shares c = search (share_at, rules)
+
+pub loop-i-preserved : goal.loop-i-preserved
+loop-i-preserved c = (search rules, search rules, search rules, search rules, search (fill_turn, rules))
+
+pub returns : goal.returns
+unfolding column_at
+returns c = search (fill_done, rules)
