@@ -1,0 +1,24 @@
+use Prim.Native.Nat.{◌≤◌, ◌-◌, ◌+◌}
+use mathlib.Core.Path.{◌≡◌, refl}
+use mathlib.Core.Bool.{cond}
+use mathlib.Core.List.{◌++◌}
+use lib.Dec.{ltb}
+use lib.ListN.{length, drop, replicate}
+use Rattle.basics.specs.Sums.{list_below}
+use Rattle.basics.proofs.SumLaws.{list_start}
+use Rattle.downstream.specs.State.{offset_at}
+use Rattle.words.specs.Taken.{word_at}
+use Rattle.words.proofs.ColumnLaws.{fill_turn, fill_done}
+use Rattle.steps.specs.Columns.{open_at}
+use borrow.Author.Rules.{rules}
+use Rattle.steps.proofs.columns.emptied_at.Goals as goal
+
+pub loop-j-init : goal.loop-j-init
+loop-j-init c = (search rules, search rules, refl, search list_start)
+
+pub loop-j-preserved : goal.loop-j-preserved
+loop-j-preserved c = (search rules, search rules, search rules, search (fill_turn, rules))
+
+pub returns : goal.returns
+unfolding open_at
+returns c = search (fill_done, rules)

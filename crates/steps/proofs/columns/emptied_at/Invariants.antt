@@ -1,0 +1,21 @@
+-- The invariant: the places before j are filled.
+use Prim.Native.Nat.{◌≤◌, ◌-◌, ◌+◌}
+use mathlib.Core.Path.{◌≡◌, refl}
+use mathlib.Core.Bool.{cond}
+use mathlib.Core.List.{◌++◌}
+use lib.Dec.{ltb}
+use lib.ListN.{length, drop, replicate}
+use Rattle.basics.specs.Sums.{list_below}
+use Rattle.basics.proofs.SumLaws.{list_start}
+use Rattle.downstream.specs.State.{offset_at}
+use Rattle.words.specs.Taken.{word_at}
+use Rattle.words.proofs.ColumnLaws.{fill_turn, fill_done}
+use Rattle.steps.specs.Columns.{open_at}
+use borrow.Author.Rules.{rules}
+use Rattle.steps.proofs.columns.emptied_at.Given as goal
+
+abbrev pub invariant-loop-j : goal.invariant-loop-j
+invariant-loop-j l = (l.j ≤ 64) × (l.at + 64 ≤ 457) × (length l.column ≡ 64) × (l.column ≡ list_below l.j (λ x. cond (ltb (offset_at l.p x) l.n) (word_at l.words (l.at + x)) 0) ++ drop l.j (replicate 64 0))
+
+abbrev pub decreases-loop-j : goal.decreases-loop-j
+decreases-loop-j l = 64 - l.j
