@@ -1,0 +1,10 @@
+-- As the words are judged.
+use Rattle.link.proofs.WindowLaws.{judge_formed, judge_not}
+use borrow.Author.Rules.{rules}
+use Rattle.link.proofs.windows.havdorlek_judge.Goals as goal
+
+pub returns-then-formed : goal.returns-then-formed
+returns-then-formed c = search judge_formed
+
+pub returns-else-formed : goal.returns-else-formed
+returns-else-formed c = search judge_not
