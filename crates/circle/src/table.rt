@@ -36,7 +36,7 @@ fn put_step(
     requires sized { (Sized ss.now) × (Sized rs.now) × (c ≡ circle_of ss.now rs.now) × (at ≡ position_of ss.now rs.now (length ss.now - 1) (j + 1)) × (j < 128) }
     requires first_steps { FirstSteps ss.now rs.now senders.old receivers.old begins.old j }
     ensures value { result ≡ position_of ss.now rs.now (length ss.now - 1) (j + 1 + 1) }
-    ensures first_steps_2 { FirstSteps ss.now rs.now senders.new receivers.new begins.new (j + 1) }
+    ensures more_steps { FirstSteps ss.now rs.now senders.new receivers.new begins.new (j + 1) }
 {
     let m = at.sender.member as usize;
     senders[j as usize] = at.sender.member;

@@ -18,8 +18,8 @@ fn count(quota: u32, key: u32, end: u32) -> u32
 
 // Turns the lower quotas of n members into their counts.
 fn add_leftovers(keys: &[u32; 64], n: usize, end: u32, out: &mut [u32])
-    requires n_bound { (n ≤ 64) × (n ≤ length out.old) }
-    requires by_index { (i : ℕ) → i < n → get_or out.old i 0 ≤ 1024 }
+    requires within { (n ≤ 64) × (n ≤ length out.old) }
+    requires small { (i : ℕ) → i < n → get_or out.old i 0 ≤ 1024 }
     ensures { out.new ≡ list_below n (λ i. get_or out.old i 0 + cond (ltb (get_or keys.now i 0) end) 1 0) ++ drop n out.old }
 {
     let mut i = 0;
@@ -32,7 +32,7 @@ fn add_leftovers(keys: &[u32; 64], n: usize, end: u32, out: &mut [u32])
 // Fills the output with the counts, one place for each member, the total share being d.
 fn fill_counts_of(shares: &[u32], d: u32, q: u32, out: &mut [u32])
     requires dealable { Dealable shares.now q }
-    requires d_value { (d ≡ total_of shares.now) × (length shares.now ≤ length out.old) }
+    requires total { (d ≡ total_of shares.now) × (length shares.now ≤ length out.old) }
     ensures { out.new ≡ counts_of shares.now q ++ drop (length shares.now) out.old }
 {
     let mut keys = [0u32; 64];
@@ -45,7 +45,7 @@ fn fill_counts_of(shares: &[u32], d: u32, q: u32, out: &mut [u32])
 // inner: for a caller that has judged the cluster and asks for many slots of one deal.
 pub fn fill_counts(shares: &[u32], q: u32, out: &mut [u32])
     requires dealable { Dealable shares.now q }
-    requires shares_in_bounds { length shares.now ≤ length out.old }
+    requires room { length shares.now ≤ length out.old }
     ensures { out.new ≡ counts_of shares.now q ++ drop (length shares.now) out.old }
 {
     let d = shares::total(shares);

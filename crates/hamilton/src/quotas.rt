@@ -24,8 +24,8 @@ fn key(product: u32, d: u32, i: usize) -> u32
 // All in one pass: each member's quota and remainder then come of one division.
 pub(crate) fn fill_quotas(shares: &[u32], q: u32, d: u32, keys: &mut [u32], out: &mut [u32]) -> u32
     requires dealable { Dealable shares.now q }
-    requires d_value { d ≡ total_of shares.now }
-    requires shares_in_bounds { (length shares.now ≤ length keys.old) × (length shares.now ≤ length out.old) }
+    requires total { d ≡ total_of shares.now }
+    requires room { (length shares.now ≤ length keys.old) × (length shares.now ≤ length out.old) }
     ensures value { result ≡ undealt_of shares.now q }
     ensures out_after { out.new ≡ list_below (length shares.now) (quota_of shares.now q) ++ drop (length shares.now) out.old }
     ensures keys_after { keys.new ≡ list_below (length shares.now) (λ i. (total_of shares.now - remainder_of shares.now q i) * 64 + i) ++ drop (length shares.now) keys.old }

@@ -49,9 +49,9 @@ fn member_after(member: usize, step: usize, n: usize) -> usize
 // A number that just `rest` of n keys are below. No two keys are equal, so that there is one. With equal remainders it is
 // the key of member `rest`, tried first; then come members far apart, since neighbours with equal shares have nearly equal keys.
 pub(crate) fn threshold(keys: &[u32; 64], n: usize, rest: u32, end: u32) -> u32
-    requires n_bound { (n ≤ 64) × (rest < n) × (end ≤ 64000001 * 64) }
-    requires rest_bound { rest < how_many n (λ j. ltb (get_or keys.now j 0) end) }
-    requires by_index { (i j : ℕ) → i < j → j < n → get_or keys.now i 0 ≡ get_or keys.now j 0 → ⊥ }
+    requires within { (n ≤ 64) × (rest < n) × (end ≤ 64000001 * 64) }
+    requires enough_below { rest < how_many n (λ j. ltb (get_or keys.now j 0) end) }
+    requires different { (i j : ℕ) → i < j → j < n → get_or keys.now i 0 ≡ get_or keys.now j 0 → ⊥ }
     ensures { rest ≡ how_many n (λ j. ltb (get_or keys.now j 0) result) }
 {
     if rest == 0 {

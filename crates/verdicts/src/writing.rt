@@ -34,7 +34,7 @@ fn put_due(
     k: u64,
     count: u32,
 ) -> usize
-    requires at_in_bounds { (at + 16 ≤ length out.old) × (Sized ss.now) × (Sized rs.now) × (i < length ss.now) × (count ≤ 255) }
+    requires room { (at + 16 ≤ length out.old) × (Sized ss.now) × (Sized rs.now) × (i < length ss.now) × (count ≤ 255) }
     requires turn_table { TurnTable ss.now rs.now senders.now receivers.now begins.now steps }
     ensures { (result ≡ cond due (at + 16) at) × (out.new ≡ cond due (take at out.old ++ (verdict_from ss.now rs.now i k (count + 1) ++ drop (at + 16) out.old)) out.old) }
 {
@@ -65,7 +65,7 @@ fn put_verdicts(
     p: u64,
     n: u64,
 ) -> usize
-    requires in_bounds { (1024 ≤ length out.old) × (Ready ss.now rs.now slots.now q) × (p ≤ 1000000000000) × (n ≤ 64) × ((j : ℕ) → get_or counts.now j 0 ≤ 255) }
+    requires room { (1024 ≤ length out.old) × (Ready ss.now rs.now slots.now q) × (p ≤ 1000000000000) × (n ≤ 64) × ((j : ℕ) → get_or counts.now j 0 ≤ 255) }
     requires turn_table { TurnTable ss.now rs.now senders.now receivers.now begins.now steps }
     ensures { (result ≡ length (verdicts_to ss.now rs.now q due counts.now p n)) × (out.new ≡ verdicts_to ss.now rs.now q due counts.now p n ++ drop result out.old) }
 {

@@ -1,9 +1,4 @@
-use Prim.Native.Nat.{◌≤◌, ◌-◌}
-use mathlib.Core.Path.{◌≡◌, refl}
-use mathlib.Core.Bool.{◌&&◌}
-use lib.Dec.{eqb}
-use lib.ListN.{length, drop}
-use Rattle.basics.specs.Bytes.{all_zero}
+use mathlib.Core.Path.{refl}
 use Rattle.basics.proofs.ByteLaws.{zero_turn, zero_done}
 use borrow.Author.Rules.{rules}
 use Rattle.basics.proofs.bytes.all_zero.Goals as goal

@@ -1,12 +1,10 @@
 -- `all_zero` gathers the bits of every byte. The invariant: all bytes are zero exactly where the gathered bits and the bytes from place i on are.
 use Prim.Native.Nat.{◌≤◌, ◌-◌}
-use mathlib.Core.Path.{◌≡◌, refl}
+use mathlib.Core.Path.{◌≡◌}
 use mathlib.Core.Bool.{◌&&◌}
 use lib.Dec.{eqb}
 use lib.ListN.{length, drop}
 use Rattle.basics.specs.Bytes.{all_zero}
-use Rattle.basics.proofs.ByteLaws.{zero_turn, zero_done}
-use borrow.Author.Rules.{rules}
 use Rattle.basics.proofs.bytes.all_zero.Given as goal
 
 abbrev pub invariant-loop-i : goal.invariant-loop-i

@@ -3,8 +3,7 @@ use Prim.Native.Nat.{◌≤◌}
 use mathlib.Core.Path.{◌≡◌}
 use lib.ListN.{length, drop}
 use Rattle.basics.specs.Bytes.{le_of}
-use Rattle.basics.proofs.ByteLaws.{Bytes, number_start, number_done, number_times, number_sum, number_turn}
-use borrow.Author.Rules.{rules}
+use Rattle.basics.proofs.ByteLaws.{Bytes}
 use Rattle.basics.proofs.bytes.number.Given as goal
 
 abbrev pub invariant-loop-i : goal.invariant-loop-i

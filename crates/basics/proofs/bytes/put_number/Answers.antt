@@ -1,8 +1,3 @@
-use Prim.Native.Nat.{◌≤◌, ◌-◌, ◌/◌, ◌^◌}
-use mathlib.Core.Path.{◌≡◌}
-use mathlib.Core.List.{◌++◌}
-use lib.ListN.{length, drop}
-use Rattle.basics.specs.Bytes.{le_bytes}
 use Rattle.basics.proofs.ByteLaws.{put_start, rest_start, rest_turn, put_turn, put_done}
 use borrow.Author.Rules.{rules}
 use Rattle.basics.proofs.bytes.put_number.Goals as goal

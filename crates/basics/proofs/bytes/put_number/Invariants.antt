@@ -4,8 +4,6 @@ use mathlib.Core.Path.{◌≡◌}
 use mathlib.Core.List.{◌++◌}
 use lib.ListN.{length, drop}
 use Rattle.basics.specs.Bytes.{le_bytes}
-use Rattle.basics.proofs.ByteLaws.{put_start, rest_start, rest_turn, put_turn, put_done}
-use borrow.Author.Rules.{rules}
 use Rattle.basics.proofs.bytes.put_number.Given as goal
 
 abbrev pub invariant-loop-i : goal.invariant-loop-i

@@ -18,4 +18,4 @@ pub next-requires : goal.next-requires
 next-requires c = search on_circle
 
 pub returns : goal.returns
-returns c = record { value = search walk_next; first_steps_2 = search step_put }
+returns c = record { value = search walk_next; more_steps = search step_put }

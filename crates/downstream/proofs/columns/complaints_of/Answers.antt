@@ -1,10 +1,6 @@
-use Prim.Native.Nat.{◌≤◌, ◌-◌}
-use mathlib.Core.Path.{◌≡◌, refl}
-use mathlib.Core.List.{◌++◌}
-use lib.ListN.{length, drop, get_or, replicate}
-use Rattle.basics.specs.Sums.{list_below}
+use mathlib.Core.Path.{refl}
 use Rattle.basics.proofs.SumLaws.{list_start}
-use Rattle.downstream.specs.State.{no_entry, complaints_of}
+use Rattle.downstream.specs.State.{complaints_of}
 use Rattle.downstream.proofs.ColumnLaws.{column_turn, column_done}
 use borrow.Author.Rules.{rules}
 use Rattle.downstream.proofs.columns.complaints_of.Goals as goal

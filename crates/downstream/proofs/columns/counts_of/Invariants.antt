@@ -1,13 +1,10 @@
 -- The invariant: the places before i are filled from the entries.
 use Prim.Native.Nat.{◌≤◌, ◌-◌}
-use mathlib.Core.Path.{◌≡◌, refl}
+use mathlib.Core.Path.{◌≡◌}
 use mathlib.Core.List.{◌++◌}
 use lib.ListN.{length, drop, get_or, replicate}
 use Rattle.basics.specs.Sums.{list_below}
-use Rattle.basics.proofs.SumLaws.{list_start}
-use Rattle.downstream.specs.State.{no_entry, counts_of}
-use Rattle.downstream.proofs.ColumnLaws.{column_turn, column_done}
-use borrow.Author.Rules.{rules}
+use Rattle.downstream.specs.State.{no_entry}
 use Rattle.downstream.proofs.columns.counts_of.Given as goal
 
 abbrev pub invariant-loop-i : goal.invariant-loop-i

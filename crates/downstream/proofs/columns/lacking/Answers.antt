@@ -1,8 +1,3 @@
-use Prim.Native.Nat.{◌≤◌, ◌-◌}
-use mathlib.Core.Path.{◌≡◌}
-use mathlib.Core.Bool.{not}
-use Rattle.marks.specs.Masks.{set_below}
-use Rattle.downstream.specs.State.{held_by}
 use Rattle.marks.proofs.SetLaws.{set_start, set_turn, set_done}
 use Rattle.downstream.specs.State.{lacking_of}
 use borrow.Author.Rules.{rules}

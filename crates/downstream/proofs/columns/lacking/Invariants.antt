@@ -4,9 +4,6 @@ use mathlib.Core.Path.{◌≡◌}
 use mathlib.Core.Bool.{not}
 use Rattle.marks.specs.Masks.{set_below}
 use Rattle.downstream.specs.State.{held_by}
-use Rattle.marks.proofs.SetLaws.{set_start, set_turn, set_done}
-use Rattle.downstream.specs.State.{lacking_of}
-use borrow.Author.Rules.{rules}
 use Rattle.downstream.proofs.columns.lacking.Given as goal
 
 abbrev pub invariant-loop-i : goal.invariant-loop-i

@@ -1,12 +1,8 @@
 use Rattle.basics.proofs.SumLaws.{list_start}
 use Rattle.downstream.proofs.ColumnLaws.{column_turn, column_done}
-use Prim.Native.Nat.{◌≤◌, ◌-◌}
-use mathlib.Core.Path.{◌≡◌, refl}
-use mathlib.Core.List.{◌++◌}
-use lib.ListN.{length, drop, replicate}
-use Rattle.basics.specs.Sums.{list_below}
+use mathlib.Core.Path.{refl}
 use Rattle.basics.proofs.SumLaws.{list_start}
-use Rattle.downstream.specs.State.{report_at, numbers_of}
+use Rattle.downstream.specs.State.{numbers_of}
 use Rattle.downstream.proofs.ColumnLaws.{column_done}
 use borrow.Author.Rules.{rules}
 use Rattle.downstream.proofs.columns.numbers_of.Goals as goal

@@ -1,6 +1,5 @@
 -- The branch is the one of the definition.
 use Rattle.downstream.proofs.ColumnLaws.{lacks_not, lacks}
-use borrow.Author.Rules.{rules}
 use Rattle.downstream.proofs.columns.with_lacking.Goals as goal
 
 pub returns-then-holds : goal.returns-then-holds

@@ -1,6 +1,5 @@
 -- More than 64 members are never a cluster; of others the refusal and the later places decide.
 use Rattle.downstream.proofs.FormedLaws.{prefixes, cluster_many, cluster_judged}
-use borrow.Author.Rules.{rules}
 use Rattle.downstream.proofs.formed.cluster_kept.Goals as goal
 
 pub returns-then-n-gt64 : goal.returns-then-n-gt64

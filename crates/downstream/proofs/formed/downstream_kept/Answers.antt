@@ -1,6 +1,5 @@
 -- The span and the cluster are judged first, so that no sum wraps; then every other clause.
 use Rattle.downstream.proofs.FormedLaws.{downs, down_judged}
-use borrow.Author.Rules.{rules}
 use Rattle.downstream.proofs.formed.downstream_kept.Goals as goal
 
 pub returns-then-not-span_kept : goal.returns-then-not-span_kept

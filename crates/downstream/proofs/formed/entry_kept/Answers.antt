@@ -1,6 +1,5 @@
 -- The branch is the one of the definition.
 use Rattle.downstream.proofs.FormedLaws.{entry_open, entry_closed}
-use borrow.Author.Rules.{rules}
 use Rattle.downstream.proofs.formed.entry_kept.Goals as goal
 
 pub returns-then-k-s : goal.returns-then-k-s

@@ -1,12 +1,5 @@
-use Prim.Native.Nat.{◌≤◌, ◌-◌}
-use mathlib.Core.Path.{◌≡◌}
-use mathlib.Core.Bool.{◌||◌}
-use lib.Dec.{ltb, eqb}
-use lib.ListN.{get_or}
-use Rattle.basics.specs.Sums.{all_below}
 use Rattle.basics.proofs.SumLaws.{alls}
 use Rattle.downstream.specs.Formed.{places_zero}
-use borrow.Author.Rules.{rules}
 use Rattle.downstream.proofs.formed.places_zero.Goals as goal
 
 pub loop-i-init : goal.loop-i-init

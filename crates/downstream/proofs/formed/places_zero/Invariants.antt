@@ -5,9 +5,6 @@ use mathlib.Core.Bool.{◌||◌}
 use lib.Dec.{ltb, eqb}
 use lib.ListN.{get_or}
 use Rattle.basics.specs.Sums.{all_below}
-use Rattle.basics.proofs.SumLaws.{alls}
-use Rattle.downstream.specs.Formed.{places_zero}
-use borrow.Author.Rules.{rules}
 use Rattle.downstream.proofs.formed.places_zero.Given as goal
 
 abbrev pub invariant-loop-i : goal.invariant-loop-i

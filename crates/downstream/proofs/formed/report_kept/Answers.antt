@@ -1,6 +1,5 @@
 -- The branch is the one of the definition.
 use Rattle.downstream.proofs.FormedLaws.{report_heard, report_unheard}
-use borrow.Author.Rules.{rules}
 use Rattle.downstream.proofs.formed.report_kept.Goals as goal
 
 pub returns-then-rep : goal.returns-then-rep

@@ -2,10 +2,8 @@
 use Prim.Native.Nat.{◌≤◌, ◌-◌}
 use mathlib.Core.Path.{◌≡◌}
 use Rattle.basics.specs.Sums.{all_below}
-use Rattle.basics.proofs.SumLaws.{alls}
 use Rattle.downstream.specs.State.{report_at}
-use Rattle.downstream.specs.Formed.{report_kept, reports_kept}
-use borrow.Author.Rules.{rules}
+use Rattle.downstream.specs.Formed.{report_kept}
 use Rattle.downstream.proofs.formed.reports_kept.Given as goal
 
 abbrev pub invariant-loop-i : goal.invariant-loop-i

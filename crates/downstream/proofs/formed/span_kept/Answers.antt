@@ -1,6 +1,5 @@
 -- S is held against the limit first, then p against S: no sum can wrap.
 use Rattle.downstream.proofs.FormedLaws.{span_high, span_low, span_near}
-use borrow.Author.Rules.{rules}
 use Rattle.downstream.proofs.formed.span_kept.Goals as goal
 
 pub returns-then-s-gt1000000000000 : goal.returns-then-s-gt1000000000000

@@ -1,6 +1,3 @@
-use Prim.Native.Nat.{◌≤◌, ◌-◌}
-use lib.ListN.{length}
-use Rattle.downstream.specs.Rows.{Steady}
 use Rattle.downstream.proofs.RowLaws.{steady_start, steady_turn, steady_done}
 use borrow.Author.Rules.{rules}
 use Rattle.downstream.proofs.rows.changes.Goals as goal

@@ -2,8 +2,6 @@
 use Prim.Native.Nat.{◌≤◌, ◌-◌}
 use lib.ListN.{length}
 use Rattle.downstream.specs.Rows.{Steady}
-use Rattle.downstream.proofs.RowLaws.{steady_start, steady_turn, steady_done}
-use borrow.Author.Rules.{rules}
 use Rattle.downstream.proofs.rows.changes.Given as goal
 
 abbrev pub invariant-loop-i : goal.invariant-loop-i

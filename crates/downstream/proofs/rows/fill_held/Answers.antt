@@ -1,8 +1,3 @@
-use Prim.Native.Nat.{◌≤◌, ◌-◌}
-use mathlib.Core.Path.{◌≡◌}
-use mathlib.Core.List.{◌++◌}
-use lib.ListN.{length, drop}
-use Rattle.downstream.specs.Rows.{held_rows}
 use Rattle.downstream.proofs.RowLaws.{rows_start, rows_turn, rows_done}
 use borrow.Author.Rules.{rules}
 use Rattle.downstream.proofs.rows.fill_held.Goals as goal

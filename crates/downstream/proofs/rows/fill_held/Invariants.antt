@@ -4,8 +4,6 @@ use mathlib.Core.Path.{◌≡◌}
 use mathlib.Core.List.{◌++◌}
 use lib.ListN.{length, drop}
 use Rattle.downstream.specs.Rows.{held_rows}
-use Rattle.downstream.proofs.RowLaws.{rows_start, rows_turn, rows_done}
-use borrow.Author.Rules.{rules}
 use Rattle.downstream.proofs.rows.fill_held.Given as goal
 
 abbrev pub invariant-loop-i : goal.invariant-loop-i

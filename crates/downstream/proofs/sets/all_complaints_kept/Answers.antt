@@ -1,6 +1,3 @@
-use Prim.Native.Nat.{◌≤◌, ◌-◌}
-use mathlib.Core.Path.{◌≡◌}
-use Rattle.downstream.specs.Rows.{held_rows, Steady, all_complaints_kept}
 use Rattle.downstream.proofs.FormedLaws.{prefixes}
 use Rattle.downstream.proofs.RowLaws.{steady_cut}
 use Rattle.downstream.proofs.SetLaws.{sets_start, sets_turn, sets_done}

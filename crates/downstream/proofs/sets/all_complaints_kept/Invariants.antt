@@ -2,10 +2,6 @@
 use Prim.Native.Nat.{◌≤◌, ◌-◌}
 use mathlib.Core.Path.{◌≡◌}
 use Rattle.downstream.specs.Rows.{held_rows, Steady, all_complaints_kept}
-use Rattle.downstream.proofs.FormedLaws.{prefixes}
-use Rattle.downstream.proofs.RowLaws.{steady_cut}
-use Rattle.downstream.proofs.SetLaws.{sets_start, sets_turn, sets_done}
-use borrow.Author.Rules.{rules}
 use Rattle.downstream.proofs.sets.all_complaints_kept.Given as goal
 
 abbrev pub invariant-loop-o : goal.invariant-loop-o

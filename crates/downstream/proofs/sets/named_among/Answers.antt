@@ -1,6 +1,3 @@
-use Prim.Native.Nat.{◌≤◌, ◌-◌}
-use mathlib.Core.Path.{◌≡◌}
-use Rattle.downstream.specs.Rows.{named_among}
 use Rattle.downstream.proofs.SetLaws.{named_start, named_turn, named_done}
 use borrow.Author.Rules.{rules}
 use Rattle.downstream.proofs.sets.named_among.Goals as goal

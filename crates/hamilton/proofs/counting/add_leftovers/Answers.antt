@@ -1,10 +1,4 @@
-use Prim.Native.Nat.{◌≤◌, ◌-◌, ◌+◌}
-use mathlib.Core.Path.{◌≡◌}
-use mathlib.Core.Bool.{cond}
-use mathlib.Core.List.{◌++◌}
-use lib.Dec.{ltb}
-use lib.ListN.{length, get_or, drop, length-set}
-use Rattle.basics.specs.Sums.{list_below}
+use lib.ListN.{length-set}
 use Rattle.basics.proofs.SumLaws.{list_start}
 use Rattle.hamilton.proofs.CountLaws.{list_done, unread_small, leftover_turn}
 use borrow.Author.Rules.{rules}
@@ -14,7 +8,7 @@ pub loop-i-init : goal.loop-i-init
 loop-i-init c = (search rules, search rules, search list_start)
 
 pub count-requires : goal.count-requires
-count-requires c = search (unread_small, c.requires.by_index, rules)
+count-requires c = search (unread_small, c.requires.small, rules)
 
 pub loop-i-preserved : goal.loop-i-preserved
 loop-i-preserved c = (

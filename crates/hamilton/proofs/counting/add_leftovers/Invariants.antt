@@ -4,11 +4,8 @@ use mathlib.Core.Path.{◌≡◌}
 use mathlib.Core.Bool.{cond}
 use mathlib.Core.List.{◌++◌}
 use lib.Dec.{ltb}
-use lib.ListN.{length, get_or, drop, length-set}
+use lib.ListN.{length, get_or, drop}
 use Rattle.basics.specs.Sums.{list_below}
-use Rattle.basics.proofs.SumLaws.{list_start}
-use Rattle.hamilton.proofs.CountLaws.{list_done, unread_small, leftover_turn}
-use borrow.Author.Rules.{rules}
 use Rattle.hamilton.proofs.counting.add_leftovers.Given as goal
 
 abbrev pub invariant-loop-i : goal.invariant-loop-i

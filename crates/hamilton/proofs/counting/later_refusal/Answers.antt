@@ -1,7 +1,6 @@
 -- Each answer is that of the first check that fails.
 use Rattle.basics.proofs.CheckLaws.{checks}
 use Rattle.hamilton.specs.Counts.{later_refusal}
-use borrow.Author.Rules.{rules}
 use Rattle.hamilton.proofs.counting.later_refusal.Goals as goal
 
 pub returns-then-not-is_quantum : goal.returns-then-not-is_quantum

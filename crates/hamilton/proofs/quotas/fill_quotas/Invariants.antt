@@ -2,13 +2,10 @@
 use Prim.Native.Nat.{◌≤◌, ◌-◌, ◌+◌}
 use mathlib.Core.Path.{◌≡◌}
 use mathlib.Core.List.{◌++◌}
-use lib.ListN.{length, drop, length-set}
+use lib.ListN.{length, drop}
 use Rattle.basics.specs.Sums.{sum_below, list_below}
-use Rattle.basics.proofs.SumLaws.{list_start}
 use Rattle.hamilton.specs.Hamilton.{quota_of}
 use Rattle.hamilton.proofs.QuotaLaws.{key}
-use Rattle.hamilton.proofs.CountLaws.{list_next, list_done, share_small, quota_told, key_told, undealt_start, undealt_fits, undealt_turn, undealt_done}
-use borrow.Author.Rules.{rules}
 use Rattle.hamilton.proofs.quotas.fill_quotas.Given as goal
 
 abbrev pub invariant-loop-i : goal.invariant-loop-i

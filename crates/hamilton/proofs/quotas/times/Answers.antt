@@ -1,6 +1,5 @@
 -- A product of an allowed share and an allowed quantum fits 32 bits.
 use Rattle.hamilton.proofs.CountLaws.{product}
-use borrow.Author.Rules.{rules}
 use Rattle.hamilton.proofs.quotas.times.Goals as goal
 
 pub overflow_mul-result : goal.overflow_mul-result

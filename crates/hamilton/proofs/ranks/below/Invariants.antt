@@ -4,8 +4,6 @@ use mathlib.Core.Path.{◌≡◌}
 use lib.Dec.{ltb}
 use lib.ListN.{get_or}
 use Rattle.basics.specs.Sums.{how_many}
-use Rattle.basics.proofs.HowManyLaws.{many_none, many_turn, many_done}
-use borrow.Author.Rules.{rules}
 use Rattle.hamilton.proofs.ranks.below.Given as goal
 
 abbrev pub invariant-loop-j : goal.invariant-loop-j

@@ -1,6 +1,5 @@
 -- Each branch is the remainder.
 use Rattle.hamilton.proofs.RankLaws.{next_within, next_again}
-use borrow.Author.Rules.{rules}
 use Rattle.hamilton.proofs.ranks.member_after.Goals as goal
 
 pub returns-then-next-n : goal.returns-then-next-n

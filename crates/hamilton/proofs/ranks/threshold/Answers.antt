@@ -1,7 +1,4 @@
-use Prim.Native.Nat.{◌≤◌, ◌<◌, ◌-◌}
-use lib.Dec.{ltb}
 use lib.ListN.{get_or}
-use Rattle.basics.specs.Sums.{how_many}
 use Rattle.hamilton.proofs.RankLaws.{next_place, next_member, none_below, few_below, halves_met}
 use borrow.Author.Rules.{rules}
 use Rattle.hamilton.proofs.ranks.threshold.Goals as goal
@@ -19,4 +16,4 @@ pub loop-low-preserved : goal.loop-low-preserved
 loop-low-preserved c = (search rules, search rules, search next_member, search rules, search rules, search rules)
 
 pub returns : goal.returns
-returns c = halves_met _ _ _ _ _ c.requires.by_index (search rules) (search rules) c.loop-low-test.false
+returns c = halves_met _ _ _ _ _ c.requires.different (search rules) (search rules) c.loop-low-test.false

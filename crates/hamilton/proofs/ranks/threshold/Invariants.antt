@@ -3,8 +3,6 @@ use Prim.Native.Nat.{◌≤◌, ◌<◌, ◌-◌}
 use lib.Dec.{ltb}
 use lib.ListN.{get_or}
 use Rattle.basics.specs.Sums.{how_many}
-use Rattle.hamilton.proofs.RankLaws.{next_place, next_member, none_below, few_below, halves_met}
-use borrow.Author.Rules.{rules}
 use Rattle.hamilton.proofs.ranks.threshold.Given as goal
 
 abbrev pub invariant-loop-low : goal.invariant-loop-low

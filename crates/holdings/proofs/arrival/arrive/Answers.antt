@@ -1,6 +1,5 @@
 -- A refusal leaves the holdings; an accepted message is taken in.
 use Rattle.holdings.proofs.ArrivalLaws.{arriving}
-use borrow.Author.Rules.{rules}
 use Rattle.holdings.proofs.arrival.arrive.Goals as goal
 
 pub returns-then-refusal-ne0 : goal.returns-then-refusal-ne0

@@ -1,6 +1,5 @@
 -- Next in line, already held, or later: the three cases of a message taken in.
 use Rattle.holdings.proofs.ArrivalLaws.{taking}
-use borrow.Author.Rules.{rules}
 use Rattle.holdings.proofs.arrival.taken.Goals as goal
 
 pub returns-then-k-c : goal.returns-then-k-c

@@ -1,7 +1,6 @@
 -- One branch, on whether the holdings are well formed.
 use Rattle.holdings.specs.State.{report_of}
 use Rattle.basics.proofs.BoolLaws.{branches}
-use borrow.Author.Rules.{rules}
 use Rattle.holdings.proofs.state.report.Goals as goal
 
 pub returns-then-well_formed : goal.returns-then-well_formed

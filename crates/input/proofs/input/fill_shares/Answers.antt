@@ -1,9 +1,4 @@
 use Rattle.input.proofs.RecordLaws.{copying, copy_turn}
-use Rattle.input.specs.Input.{shares_at}
-use Prim.Native.Nat.{◌≤◌, ◌-◌}
-use mathlib.Core.Path.{◌≡◌}
-use mathlib.Core.List.{◌++◌}
-use lib.ListN.{length, drop}
 use borrow.Author.Rules.{rules}
 use Rattle.input.proofs.input.fill_shares.Goals as goal
 

@@ -1,11 +1,9 @@
 -- The invariant: the first j places hold the first j shares, and the later places are as they were.
-use Rattle.input.proofs.RecordLaws.{copying, copy_turn}
 use Rattle.input.specs.Input.{shares_at}
 use Prim.Native.Nat.{◌≤◌, ◌-◌}
 use mathlib.Core.Path.{◌≡◌}
 use mathlib.Core.List.{◌++◌}
 use lib.ListN.{length, drop}
-use borrow.Author.Rules.{rules}
 use Rattle.input.proofs.input.fill_shares.Given as goal
 
 abbrev pub invariant-loop-j : goal.invariant-loop-j

@@ -1,6 +1,5 @@
 -- The test is the definition, opened.
 use Rattle.input.specs.Input.{in_order}
-use borrow.Author.Rules.{rules}
 use Rattle.input.proofs.input.in_order.Goals as goal
 
 pub returns : goal.returns

@@ -1,6 +1,5 @@
 -- Four bytes of a record that is there, which 32 bits hold.
 use Rattle.input.proofs.RecordLaws.{reading}
-use borrow.Author.Rules.{rules}
 use Rattle.input.proofs.input.number_at.Goals as goal
 
 pub overflow_cast-result : goal.overflow_cast-result

@@ -1,6 +1,5 @@
 -- Each number is the definition's.
 use Rattle.input.specs.Input.{numbers_of}
-use borrow.Author.Rules.{rules}
 use Rattle.input.proofs.input.read_numbers.Goals as goal
 
 pub returns : goal.returns

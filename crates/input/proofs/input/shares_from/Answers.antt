@@ -1,7 +1,4 @@
 use Rattle.input.proofs.RecordLaws.{counting}
-use Rattle.input.specs.Input.{shares_from}
-use Prim.Native.Nat.{◌≤◌, ◌+◌, ◌-◌}
-use mathlib.Core.Path.{◌≡◌}
 use borrow.Author.Rules.{rules}
 use Rattle.input.proofs.input.shares_from.Goals as goal
 

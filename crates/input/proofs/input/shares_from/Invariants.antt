@@ -1,9 +1,7 @@
 -- The invariant: what is counted, and what the records left would add, is the whole.
-use Rattle.input.proofs.RecordLaws.{counting}
 use Rattle.input.specs.Input.{shares_from}
 use Prim.Native.Nat.{◌≤◌, ◌+◌, ◌-◌}
 use mathlib.Core.Path.{◌≡◌}
-use borrow.Author.Rules.{rules}
 use Rattle.input.proofs.input.shares_from.Given as goal
 
 abbrev pub invariant-loop-r : goal.invariant-loop-r

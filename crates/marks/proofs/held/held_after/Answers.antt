@@ -1,6 +1,5 @@
 -- The branches are the three places that c has: before p, past all of them, among them.
 use Rattle.marks.proofs.AfterLaws.{after_before, after_all_lem, after_among}
-use borrow.Author.Rules.{rules}
 use Rattle.marks.proofs.held.held_after.Goals as goal
 
 pub returns-then-c-p : goal.returns-then-c-p

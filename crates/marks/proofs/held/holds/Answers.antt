@@ -1,6 +1,5 @@
 -- At most c is held; above it the mask decides.
 use Rattle.marks.proofs.HeldLaws.{holds_at_most, holds_marked}
-use borrow.Author.Rules.{rules}
 use Rattle.marks.proofs.held.holds.Goals as goal
 
 pub returns-then-k-c : goal.returns-then-k-c

@@ -1,6 +1,5 @@
 -- Those before the one place that are not before the other.
 use Rattle.marks.proofs.FirstLaws.{among_told}
-use borrow.Author.Rules.{rules}
 use Rattle.marks.proofs.masks.among.Goals as goal
 
 pub returns : goal.returns

@@ -1,7 +1,6 @@
 -- With a shift where there is one to make.
 use Rattle.marks.proofs.MaskLaws.{one_up}
 use Rattle.marks.proofs.FirstLaws.{first_some, first_all}
-use borrow.Author.Rules.{rules}
 use Rattle.marks.proofs.masks.first.Goals as goal
 
 pub overflow_sub-result : goal.overflow_sub-result

@@ -1,6 +1,5 @@
 -- A bit that is there is set by an or with its own digit; past the 64 the mask stays.
 use Rattle.marks.proofs.MaskLaws.{mark_in, mark_out}
-use borrow.Author.Rules.{rules}
 use Rattle.marks.proofs.masks.mark.Goals as goal
 
 pub returns-then-b-lt64 : goal.returns-then-b-lt64

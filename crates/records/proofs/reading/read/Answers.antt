@@ -1,6 +1,5 @@
 -- The length, then the kind: what a function of one kind answers is what reading answers.
 use Rattle.records.proofs.ReadLaws.{reads}
-use borrow.Author.Rules.{rules}
 use Rattle.records.proofs.reading.read.Goals as goal
 
 pub returns-then-bytes-ne24 : goal.returns-then-bytes-ne24

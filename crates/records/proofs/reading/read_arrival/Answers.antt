@@ -1,6 +1,5 @@
 -- An arrival: its two fields, where bytes 2 to 7 and the mask are zero.
 use Rattle.records.proofs.ReadLaws.{reads}
-use borrow.Author.Rules.{rules}
 use Rattle.records.proofs.reading.read_arrival.Goals as goal
 
 pub returns-then-all_zero : goal.returns-then-all_zero

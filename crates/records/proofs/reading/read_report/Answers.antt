@@ -1,6 +1,5 @@
 -- A report: its three fields, where bytes 2 to 7 are zero.
 use Rattle.records.proofs.ReadLaws.{reads}
-use borrow.Author.Rules.{rules}
 use Rattle.records.proofs.reading.read_report.Goals as goal
 
 pub returns-then-all_zero : goal.returns-then-all_zero

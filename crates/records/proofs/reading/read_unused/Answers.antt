@@ -1,6 +1,5 @@
 -- An unused place: all other bytes are zero, or the record is refused.
 use Rattle.records.proofs.ReadLaws.{reads}
-use borrow.Author.Rules.{rules}
 use Rattle.records.proofs.reading.read_unused.Goals as goal
 
 pub returns-then-all_zero : goal.returns-then-all_zero

@@ -1,6 +1,5 @@
 -- The three parts of a record, one after another.
 use Rattle.records.proofs.WriteLaws.{put_record}
-use borrow.Author.Rules.{rules}
 use Rattle.records.proofs.writing.put_record.Goals as goal
 
 pub returns : goal.returns

@@ -1,6 +1,5 @@
 -- The checks in their order, of which a report passes the first two; only an accepted record changes the output.
 use Rattle.records.proofs.WriteLaws.{writes}
-use borrow.Author.Rules.{rules}
 use Rattle.records.proofs.writing.write.Goals as goal
 
 pub write_kept-requires : goal.write_kept-requires

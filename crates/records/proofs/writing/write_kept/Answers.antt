@@ -1,6 +1,5 @@
 -- The last check; only where there is room the output changes.
 use Rattle.records.proofs.WriteLaws.{writes}
-use borrow.Author.Rules.{rules}
 use Rattle.records.proofs.writing.write_kept.Goals as goal
 
 pub returns-then-out-lt24 : goal.returns-then-out-lt24

@@ -1,6 +1,5 @@
 -- A part of the answer.
 use Rattle.shares.proofs.ClusterLaws.{answer_refusal}
-use borrow.Author.Rules.{rules}
 use Rattle.shares.proofs.cluster.cluster_refusal.Goals as goal
 
 pub returns : goal.returns

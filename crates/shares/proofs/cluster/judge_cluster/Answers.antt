@@ -1,6 +1,5 @@
 -- Each answer is that of the first check that fails, with the total.
 use Rattle.shares.proofs.ClusterLaws.{judging}
-use borrow.Author.Rules.{rules}
 use Rattle.shares.proofs.cluster.judge_cluster.Goals as goal
 
 pub returns-then-shares-lt1 : goal.returns-then-shares-lt1

@@ -1,6 +1,5 @@
 -- A value no better than the best so far is passed over; another counts where it is reached.
 use Rattle.shares.proofs.PointLaws.{not_better, better_reached, better_not_reached}
-use borrow.Author.Rules.{rules}
 use Rattle.shares.proofs.points.better.Goals as goal
 
 pub returns-then-v-best : goal.returns-then-v-best

@@ -1,9 +1,4 @@
-use Prim.Native.Nat.{◌≤◌, ◌-◌}
-use mathlib.Core.Path.{◌≡◌}
-use lib.Dec.{leb}
-use lib.ListN.{length, get_or}
-use Rattle.shares.specs.Point.{reached_of}
-use Rattle.shares.proofs.PointLaws.{best_of, best_start, best_turn, point_done}
+use Rattle.shares.proofs.PointLaws.{best_start, best_turn, point_done}
 use borrow.Author.Rules.{rules}
 use Rattle.shares.proofs.points.point.Goals as goal
 

@@ -4,8 +4,7 @@ use mathlib.Core.Path.{◌≡◌}
 use lib.Dec.{leb}
 use lib.ListN.{length, get_or}
 use Rattle.shares.specs.Point.{reached_of}
-use Rattle.shares.proofs.PointLaws.{best_of, best_start, best_turn, point_done}
-use borrow.Author.Rules.{rules}
+use Rattle.shares.proofs.PointLaws.{best_of}
 use Rattle.shares.proofs.points.point.Given as goal
 
 abbrev pub invariant-loop-i : goal.invariant-loop-i

@@ -1,9 +1,3 @@
-use Prim.Native.Nat.{◌≤◌, ◌-◌, ◌*◌, min}
-use mathlib.Core.Path.{◌≡◌}
-use mathlib.Core.Bool.{cond}
-use lib.Dec.{leb}
-use lib.ListN.{length, get_or}
-use Rattle.basics.specs.Sums.{sum_below}
 use Rattle.basics.proofs.SumLaws.{sums}
 use Rattle.shares.specs.Shares.{share_of}
 use Rattle.shares.specs.Point.{reached_of}

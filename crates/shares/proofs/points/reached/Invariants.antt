@@ -5,10 +5,6 @@ use mathlib.Core.Bool.{cond}
 use lib.Dec.{leb}
 use lib.ListN.{length, get_or}
 use Rattle.basics.specs.Sums.{sum_below}
-use Rattle.basics.proofs.SumLaws.{sums}
-use Rattle.shares.specs.Shares.{share_of}
-use Rattle.shares.specs.Point.{reached_of}
-use borrow.Author.Rules.{rules}
 use Rattle.shares.proofs.points.reached.Given as goal
 
 abbrev pub invariant-loop-i : goal.invariant-loop-i

@@ -4,10 +4,7 @@ use mathlib.Core.Path.{◌≡◌}
 use mathlib.Core.Bool.{cond}
 use lib.ListN.{length, get_or}
 use Rattle.basics.specs.Sums.{sum_below}
-use Rattle.basics.proofs.SumLaws.{sums}
 use Rattle.marks.specs.Masks.{is_marked}
-use Rattle.shares.specs.Shares.{share_of}
-use borrow.Author.Rules.{rules}
 use Rattle.shares.proofs.totals.marked_share.Given as goal
 
 abbrev pub invariant-loop-i : goal.invariant-loop-i

@@ -1,11 +1,5 @@
 use Rattle.shares.proofs.ShareLaws.{share_done}
-use Rattle.marks.specs.Masks.{is_marked, reach_of}
-use mathlib.Core.Bool.{cond}
 use Rattle.basics.proofs.SumLaws.{sums}
-use Rattle.basics.specs.Sums.{sum_below}
-use lib.ListN.{length, get_or}
-use mathlib.Core.Path.{◌≡◌}
-use Prim.Native.Nat.{◌≤◌, ◌-◌, ◌*◌, min}
 use borrow.Author.Rules.{rules}
 use Rattle.shares.proofs.totals.share.Goals as goal
 

@@ -1,13 +1,10 @@
 -- The invariant: `sum` is that of the named members before place i, and each share has 32 bits.
-use Rattle.shares.proofs.ShareLaws.{share_done}
 use Rattle.marks.specs.Masks.{is_marked, reach_of}
 use mathlib.Core.Bool.{cond}
-use Rattle.basics.proofs.SumLaws.{sums}
 use Rattle.basics.specs.Sums.{sum_below}
 use lib.ListN.{length, get_or}
 use mathlib.Core.Path.{◌≡◌}
 use Prim.Native.Nat.{◌≤◌, ◌-◌, ◌*◌, min}
-use borrow.Author.Rules.{rules}
 use Rattle.shares.proofs.totals.share.Given as goal
 
 abbrev pub invariant-loop-i : goal.invariant-loop-i

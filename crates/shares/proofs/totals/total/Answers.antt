@@ -1,7 +1,3 @@
-use Prim.Native.Nat.{◌≤◌, ◌-◌, ◌*◌}
-use mathlib.Core.Path.{◌≡◌}
-use lib.ListN.{length, get_or}
-use Rattle.basics.specs.Sums.{sum_below}
 use Rattle.basics.proofs.SumLaws.{sums}
 use Rattle.shares.specs.Shares.{total_of}
 use borrow.Author.Rules.{rules}

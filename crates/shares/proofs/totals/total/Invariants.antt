@@ -3,9 +3,6 @@ use Prim.Native.Nat.{◌≤◌, ◌-◌, ◌*◌}
 use mathlib.Core.Path.{◌≡◌}
 use lib.ListN.{length, get_or}
 use Rattle.basics.specs.Sums.{sum_below}
-use Rattle.basics.proofs.SumLaws.{sums}
-use Rattle.shares.specs.Shares.{total_of}
-use borrow.Author.Rules.{rules}
 use Rattle.shares.proofs.totals.total.Given as goal
 
 abbrev pub invariant-loop-i : goal.invariant-loop-i

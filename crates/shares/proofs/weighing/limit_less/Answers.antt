@@ -1,7 +1,6 @@
 -- The branch is the one of the definition.
 use Rattle.basics.proofs.BoolLaws.{branches}
 use Rattle.shares.proofs.WeighLaws.{limit_past}
-use borrow.Author.Rules.{rules}
 use Rattle.shares.proofs.weighing.limit_less.Goals as goal
 
 pub returns-then-x-le1000000 : goal.returns-then-x-le1000000

@@ -1,6 +1,5 @@
 -- The branch is the one of the definition.
 use Rattle.basics.proofs.BoolLaws.{branches}
-use borrow.Author.Rules.{rules}
 use Rattle.shares.proofs.weighing.one_less.Goals as goal
 
 pub returns-then-x-eq0 : goal.returns-then-x-eq0

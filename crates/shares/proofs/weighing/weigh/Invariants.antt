@@ -4,10 +4,7 @@ use mathlib.Core.Path.{◌≡◌}
 use lib.Dec.{ltb}
 use lib.ListN.{length, get_or}
 use Rattle.basics.specs.Sums.{sum_below, all_below}
-use Rattle.shares.specs.Shares.{total_of}
-use Rattle.shares.specs.Cluster.{is_share, shares_fit}
-use Rattle.shares.proofs.WeighLaws.{bits_turn, bits_done, total_turn, total_done}
-use borrow.Author.Rules.{rules}
+use Rattle.shares.specs.Cluster.{is_share}
 use Rattle.shares.proofs.weighing.weigh.Given as goal
 
 abbrev pub invariant-loop-i : goal.invariant-loop-i

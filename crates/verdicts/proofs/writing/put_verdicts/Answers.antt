@@ -26,7 +26,7 @@ pub fallen-turn-requires : goal.fallen-turn-requires
 fallen-turn-requires c = (search ready_few, search rules)
 
 pub put_due-at-requires : goal.put_due-at-requires
-put_due-at-requires c = record { at_in_bounds = (search rules, search rules, search rules, search dealt_member, search small_count); turn_table = search rules }
+put_due-at-requires c = record { room = (search rules, search rules, search rules, search dealt_member, search small_count); turn_table = search rules }
 
 pub after-dealer-requires : goal.after-dealer-requires
 after-dealer-requires c = (search ready_few, search rules)
