@@ -1,12 +1,12 @@
 // A line's word and its numbers.
 ghost use Rattle.std.specs.Prelude.{◌≡◌, ◌-◌, ◌≤◌, min, length, replicate, slice_index};
-ghost use Rattle.io.specs.Counts.{IsPrefixLen};
+ghost use Rattle.script.specs.Counts.{IsPrefixLen};
 
 fn ten_times(x: u64) -> u64 {
-    let two = std::num::wrapping_add_u64(x, x);
-    let four = std::num::wrapping_add_u64(two, two);
-    let eight = std::num::wrapping_add_u64(four, four);
-    std::num::wrapping_add_u64(eight, two)
+    let two = x.wrapping_add(x);
+    let four = two.wrapping_add(two);
+    let eight = four.wrapping_add(four);
+    eight.wrapping_add(two)
 }
 
 fn with_digit(x: u64, byte: u8) -> u64 {
@@ -59,11 +59,7 @@ fn byte_at(line: &[u8], at: usize) -> u8 {
 
 // The next place in a word of a list: its start after a space.
 fn next_at(at: usize, byte: u8) -> usize {
-    if byte == 32 {
-        0
-    } else {
-        std::num::wrapping_add_usize(at, 1)
-    }
+    if byte == 32 { 0 } else { at.wrapping_add(1) }
 }
 
 // The place of a line's first word in a list of words, each with a space after it; how many there are where it is none of them.
@@ -137,7 +133,7 @@ pub fn copy_shares(numbers: &[u64], start: usize, shares: &mut [u32])
 {
     let mut i = 0;
     while i < shares.len() {
-        shares[i] = short(number_at(numbers, std::num::wrapping_add_usize(start, i)));
+        shares[i] = short(number_at(numbers, start.wrapping_add(i)));
         i += 1;
     }
 }
@@ -147,7 +143,7 @@ pub fn copy_bytes(numbers: &[u64], start: usize, bytes: &mut [u8])
 {
     let mut i = 0;
     while i < bytes.len() {
-        bytes[i] = byte(number_at(numbers, std::num::wrapping_add_usize(start, i)));
+        bytes[i] = byte(number_at(numbers, start.wrapping_add(i)));
         i += 1;
     }
 }

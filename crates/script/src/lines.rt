@@ -1,5 +1,24 @@
 // The lines of the input.
-ghost use Rattle.std.specs.Prelude.{◌-◌, ◌≤◌, length};
+ghost use Rattle.std.specs.Prelude.{◌-◌, ◌≤◌, length, IfOk};
+ghost use Rattle.script.specs.Counts.{IsPrefixLen};
+
+use std::io;
+use std::io::Read;
+
+// Reads until the space is full or the input ends, and answers how many bytes it put at the start of the space.
+pub fn read_full(from: &mut impl Read, space: &mut [u8]) -> io::Result<usize>
+    ensures { IfOk result (λ n. IsPrefixLen n space.new) }
+{
+    let mut done = 0;
+    while done < space.len() {
+        let n = from.read(&mut space[done..])?;
+        if n == 0 {
+            break;
+        }
+        done += n;
+    }
+    Ok(done)
+}
 
 // How many bytes the line has that starts at a place.
 pub fn line_length(cases: &[u8], start: usize) -> usize

@@ -1,7 +1,9 @@
 // An output of bytes that were each 7 before a call.
-ghost use Rattle.io.specs.Counts.{IsPrefixLen};
+ghost use Rattle.script.specs.Counts.{IsPrefixLen};
 
 use crate::say;
+use std::io;
+use std::io::Write;
 
 // How many of its bytes come before those at its end that are 7 still.
 pub fn written(out: &[u8]) -> usize
@@ -18,9 +20,9 @@ pub fn written(out: &[u8]) -> usize
 }
 
 // How many bytes at its end were left alone.
-pub fn say_kept(out: &[u8])
+pub fn say_kept(to: &mut impl Write, out: &[u8]) -> io::Result<()>
     ensures { Unit {0} }
 {
     let n = written(out);
-    say::named(b"kept", (out.len() - n) as u64);
+    say::named(to, b"kept", (out.len() - n) as u64)
 }
