@@ -1,34 +1,38 @@
 // Calls that take a line's bytes, and calls that fill an output of as many bytes as the line says, each 7 before.
 use crate::{links, words};
 use script::{input, say};
+use std::io;
+use std::io::Write;
 
 // all-zero bytes: whether they are.
-fn all_zero(bytes: &[u8]) {
-    say::truth(basics::all_zero(bytes));
+fn all_zero(to: &mut impl Write, bytes: &[u8]) -> io::Result<()> {
+    say::truth(to, basics::all_zero(bytes))
 }
 
-fn taken(bytes: &[u8], word: usize, n: usize) {
+fn taken(to: &mut impl Write, bytes: &[u8], word: usize, n: usize) -> io::Result<()> {
     let length = input::first_bytes(n, bytes);
     if word == words::READ {
-        links::read(&bytes[..length]);
+        links::read(to, &bytes[..length])?;
     } else if word == words::ALL_ZERO {
-        all_zero(&bytes[..length]);
+        all_zero(to, &bytes[..length])?;
     }
+    Ok(())
 }
 
 // put-number x room: all bytes of the output.
-fn put_number(x: u64, out: &mut [u8]) {
+fn put_number(to: &mut impl Write, x: u64, out: &mut [u8]) -> io::Result<()> {
     basics::put_number(out, x);
-    say::text(b":");
-    say::bytes(out);
+    say::text(to, b":")?;
+    say::bytes(to, out)
 }
 
-fn filled(args: &[u64; 100], word: usize, out: &mut [u8]) {
+fn filled(to: &mut impl Write, args: &[u64; 100], word: usize, out: &mut [u8]) -> io::Result<()> {
     if word == words::WRITE {
-        links::write(args, out);
+        links::write(to, args, out)?;
     } else if word == words::PUT_NUMBER {
-        put_number(args[1], out);
+        put_number(to, args[1], out)?;
     }
+    Ok(())
 }
 
 fn room_of(args: &[u64; 100], word: usize) -> usize {
@@ -39,19 +43,24 @@ fn room_of(args: &[u64; 100], word: usize) -> usize {
     }
 }
 
-fn cut(args: &[u64; 100], word: usize, out: &mut [u8]) {
+fn cut(to: &mut impl Write, args: &[u64; 100], word: usize, out: &mut [u8]) -> io::Result<()> {
     let n = input::first_bytes(room_of(args, word), out);
-    filled(args, word, &mut out[..n]);
+    filled(to, args, word, &mut out[..n])
 }
 
 fn sevens() -> [u8; 100] {
     [7; 100]
 }
 
-pub(crate) fn asked(args: &[u64; 100], word: usize, n: usize) {
+pub(crate) fn asked(
+    to: &mut impl Write,
+    args: &[u64; 100],
+    word: usize,
+    n: usize,
+) -> io::Result<()> {
     let mut bytes = sevens();
     input::copy_bytes(args, 1, &mut bytes);
-    taken(&bytes, word, n);
+    taken(to, &bytes, word, n)?;
     let mut out = sevens();
-    cut(args, word, &mut out);
+    cut(to, args, word, &mut out)
 }

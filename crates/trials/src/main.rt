@@ -22,8 +22,13 @@ mod pairs;
 mod plans;
 mod words;
 
-fn main() {
-    let mut space = io::large_buffer();
-    let n = io::read_full(0, &mut space);
-    lines::run_all(&space[..n]);
+use std::io;
+use std::io::{BufWriter, Write};
+
+fn main(rt: HostRuntime) -> io::Result<()> {
+    let mut space = [0u8; 65_536];
+    let n = script::lines::read_full(&mut rt.stdin(), &mut space)?;
+    let mut to = BufWriter::new(rt.alloc(), rt.stdout())?;
+    lines::run_all(&mut to, &space[..n])?;
+    to.flush()
 }

@@ -2,51 +2,92 @@
 use crate::words;
 use script::sides::{Side, Sides};
 use script::{input, say};
+use std::io;
+use std::io::Write;
 
 // pair q: the refusal.
-fn pair(ss: &[u32], s: Side, rs: &[u32], t: Side, q: u32) {
-    say::refusal(deal::pair_refusal(ss, s.u, s.r, rs, t.u, t.r, q));
+fn pair(to: &mut impl Write, ss: &[u32], s: Side, rs: &[u32], t: Side, q: u32) -> io::Result<()> {
+    say::refusal(to, deal::pair_refusal(ss, s.u, s.r, rs, t.u, t.r, q))
 }
 
 // first q k: the refusal, the sender and the receiver.
-fn first(ss: &[u32], s: Side, rs: &[u32], t: Side, q: u32, k: u64) {
+fn first(
+    to: &mut impl Write,
+    ss: &[u32],
+    s: Side,
+    rs: &[u32],
+    t: Side,
+    q: u32,
+    k: u64,
+) -> io::Result<()> {
     let a = deal::first_pair(ss, s.u, s.r, rs, t.u, t.r, q, k);
-    say::refusal(a.refusal);
-    say::short(a.sender);
-    say::short(a.receiver);
+    say::refusal(to, a.refusal)?;
+    say::short(to, a.sender)?;
+    say::short(to, a.receiver)
 }
 
 // resend q k number: the refusal, the sender, the receiver and the run.
-fn resend(ss: &[u32], s: Side, rs: &[u32], t: Side, q: u32, k: u64, number: u32) {
+fn resend(
+    to: &mut impl Write,
+    ss: &[u32],
+    s: Side,
+    rs: &[u32],
+    t: Side,
+    q: u32,
+    k: u64,
+    number: u32,
+) -> io::Result<()> {
     let a = resend::resend_pair(ss, s.u, s.r, rs, t.u, t.r, q, k, number);
-    say::refusal(a.refusal);
-    say::short(a.sender);
-    say::short(a.receiver);
-    say::number(a.run);
+    say::refusal(to, a.refusal)?;
+    say::short(to, a.sender)?;
+    say::short(to, a.receiver)?;
+    say::number(to, a.run)
 }
 
-fn called(ss: &[u32], s: Side, rs: &[u32], t: Side, word: usize, args: &[u64; 100]) {
+fn called(
+    to: &mut impl Write,
+    ss: &[u32],
+    s: Side,
+    rs: &[u32],
+    t: Side,
+    word: usize,
+    args: &[u64; 100],
+) -> io::Result<()> {
     let q = input::short(args[1]);
     if word == words::PAIR {
-        pair(ss, s, rs, t, q);
+        pair(to, ss, s, rs, t, q)?;
     } else if word == words::FIRST {
-        first(ss, s, rs, t, q, args[2]);
+        first(to, ss, s, rs, t, q, args[2])?;
     } else if word == words::RESEND {
-        resend(ss, s, rs, t, q, args[2], input::short(args[3]));
+        resend(to, ss, s, rs, t, q, args[2], input::short(args[3]))?;
     }
+    Ok(())
 }
 
 // The shares of the members alone.
-fn cut(ss: &[u32], s: Side, rs: &[u32], t: Side, word: usize, args: &[u64; 100]) {
+fn cut(
+    to: &mut impl Write,
+    ss: &[u32],
+    s: Side,
+    rs: &[u32],
+    t: Side,
+    word: usize,
+    args: &[u64; 100],
+) -> io::Result<()> {
     let n = input::first_words(s.members, ss);
     let m = input::first_words(t.members, rs);
-    called(&ss[..n], s, &rs[..m], t, word, args);
+    called(to, &ss[..n], s, &rs[..m], t, word, args)
 }
 
-pub(crate) fn asked(sides: Sides, word: usize, args: &[u64; 100]) {
+pub(crate) fn asked(
+    to: &mut impl Write,
+    sides: Sides,
+    word: usize,
+    args: &[u64; 100],
+) -> io::Result<()> {
     let s = sides.sending;
     let t = sides.receiving;
     let ss = s.shares;
     let rs = t.shares;
-    cut(&ss, s, &rs, t, word, args);
+    cut(to, &ss, s, &rs, t, word, args)
 }
