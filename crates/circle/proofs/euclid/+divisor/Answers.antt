@@ -1,5 +1,4 @@
 use mathlib.Core.Path.{sym, ◌∙◌}
-use native.Mathlib.Nat.{mod-lt}
 use native.Mathlib.Omega.{arith}
 use Rattle.circle.proofs.EuclidLaws.{divisor_zero, divisor_step}
 use Rattle.circle.proofs.euclid.+divisor.Goals as goal

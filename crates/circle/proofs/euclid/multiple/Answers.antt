@@ -1,6 +1,5 @@
 -- A common divisor is not 0, and the part of a times b is at most a times b.
 use Rattle.circle.proofs.EuclidLaws.{divisor_told, part_fits, multiple_told}
-use borrow.Author.Rules.{rules}
 use Rattle.circle.proofs.euclid.multiple.Goals as goal
 
 pub nonzero_div-result : goal.nonzero_div-result

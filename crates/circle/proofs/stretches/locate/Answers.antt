@@ -1,7 +1,3 @@
-use Prim.Native.Nat.{◌+◌, ◌*◌, ◌-◌, ◌<◌}
-use mathlib.Core.Path.{◌≡◌}
-use lib.ListN.{length, get_or}
-use Rattle.circle.specs.Stretches.{scaled, units_before}
 use Rattle.circle.proofs.PlaceLaws.{some_member, locate_start, more_members, locate_turn, locate_done}
 use borrow.Author.Rules.{rules}
 use Rattle.circle.proofs.stretches.locate.Goals as goal

@@ -1,6 +1,5 @@
 -- Either arm of the test, against `cond`.
 use Rattle.circle.proofs.TableLaws.{begin_here, begin_before}
-use borrow.Author.Rules.{rules}
 use Rattle.circle.proofs.table.begin_at.Goals as goal
 
 pub returns-then-at-whole : goal.returns-then-at-whole

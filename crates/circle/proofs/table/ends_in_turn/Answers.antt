@@ -1,6 +1,5 @@
 -- From the table where it has the start, and by the walk elsewhere.
 use Rattle.circle.proofs.TableLaws.{table_told, ends_told}
-use borrow.Author.Rules.{rules}
 use Rattle.circle.proofs.table.ends_in_turn.Goals as goal
 
 pub returns-then-begin-steps : goal.returns-then-begin-steps

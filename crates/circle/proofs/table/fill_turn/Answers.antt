@@ -1,8 +1,3 @@
-use Prim.Native.Nat.{◌+◌, ◌-◌, ◌≤◌}
-use mathlib.Core.Path.{◌≡◌}
-use lib.ListN.{length}
-use Rattle.circle.specs.Positions.{position_of}
-use Rattle.circle.specs.TurnTable.{FirstSteps}
 use Rattle.circle.proofs.TableLaws.{turn_back, turn_none}
 use borrow.Author.Rules.{rules}
 use Rattle.circle.proofs.table.fill_turn.Goals as goal

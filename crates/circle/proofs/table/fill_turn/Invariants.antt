@@ -4,8 +4,6 @@ use mathlib.Core.Path.{◌≡◌}
 use lib.ListN.{length}
 use Rattle.circle.specs.Positions.{position_of}
 use Rattle.circle.specs.TurnTable.{FirstSteps}
-use Rattle.circle.proofs.TableLaws.{turn_back, turn_none}
-use borrow.Author.Rules.{rules}
 use Rattle.circle.proofs.table.fill_turn.Given as goal
 
 abbrev pub invariant-loop-j : goal.invariant-loop-j

@@ -2,7 +2,6 @@
 use Rattle.circle.proofs.PositionLaws.{send_fits, on_circle}
 use Rattle.circle.proofs.PeriodLaws.{walk_next}
 use Rattle.circle.proofs.TableLaws.{step_member, step_begin, step_put}
-use borrow.Author.Rules.{rules}
 use Rattle.circle.proofs.table.put_step.Goals as goal
 
 pub bounds-begins-m : goal.bounds-begins-m

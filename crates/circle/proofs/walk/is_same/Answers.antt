@@ -1,6 +1,5 @@
 -- Both places, by the definition, opened.
 use Rattle.circle.specs.Positions.{same_position}
-use borrow.Author.Rules.{rules}
 use Rattle.circle.proofs.walk.is_same.Goals as goal
 
 pub returns : goal.returns

@@ -1,6 +1,5 @@
 -- Both places are moved on by the run.
 use Rattle.circle.specs.Positions.{next_of}
-use borrow.Author.Rules.{rules}
 use Rattle.circle.proofs.walk.next.Goals as goal
 
 pub returns : goal.returns

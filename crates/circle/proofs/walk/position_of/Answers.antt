@@ -1,6 +1,3 @@
-use Prim.Native.Nat.{◌+◌, ◌≤◌}
-use mathlib.Core.Path.{◌≡◌}
-use Rattle.circle.specs.Positions.{position_of}
 use Rattle.circle.proofs.PositionLaws.{on_circle}
 use Rattle.circle.proofs.PeriodLaws.{walk_start, walk_next, walk_turn, walk_done}
 use borrow.Author.Rules.{rules}

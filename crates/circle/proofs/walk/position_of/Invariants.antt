@@ -2,9 +2,6 @@
 use Prim.Native.Nat.{◌+◌, ◌≤◌}
 use mathlib.Core.Path.{◌≡◌}
 use Rattle.circle.specs.Positions.{position_of}
-use Rattle.circle.proofs.PositionLaws.{on_circle}
-use Rattle.circle.proofs.PeriodLaws.{walk_start, walk_next, walk_turn, walk_done}
-use borrow.Author.Rules.{rules}
 use Rattle.circle.proofs.walk.position_of.Given as goal
 
 abbrev pub invariant-loop-left : goal.invariant-loop-left

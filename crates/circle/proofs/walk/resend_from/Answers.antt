@@ -1,6 +1,5 @@
 -- The resend is the definition, opened.
 use Rattle.circle.specs.Positions.{resend_from}
-use borrow.Author.Rules.{rules}
 use Rattle.circle.proofs.walk.resend_from.Goals as goal
 
 pub returns : goal.returns

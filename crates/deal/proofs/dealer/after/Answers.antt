@@ -1,6 +1,5 @@
 -- The next slot falls to a member after this one, or it is the first slot again.
 use Rattle.deal.proofs.DealerLaws.{after_slot, after_dealing, again_slot, again_dealing}
-use borrow.Author.Rules.{rules}
 use Rattle.deal.proofs.dealer.after.Goals as goal
 
 pub returns-then-slot-q : goal.returns-then-slot-q

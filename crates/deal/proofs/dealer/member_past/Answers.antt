@@ -1,8 +1,4 @@
 use Rattle.deal.proofs.DealerLaws.{takers_none, takers_turn, takers_end}
-use Prim.Native.Nat.{◌≤◌, ◌-◌}
-use mathlib.Core.Path.{◌≡◌}
-use lib.ListN.{length}
-use Rattle.deal.specs.Dealing.{takers_before}
 use borrow.Author.Rules.{rules}
 use Rattle.deal.proofs.dealer.member_past.Goals as goal
 

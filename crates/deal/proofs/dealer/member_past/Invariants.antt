@@ -1,10 +1,8 @@
 -- The invariant: `seen` is how many members before place i take a slot in round t, and they are not too many.
-use Rattle.deal.proofs.DealerLaws.{takers_none, takers_turn, takers_end}
 use Prim.Native.Nat.{◌≤◌, ◌-◌}
 use mathlib.Core.Path.{◌≡◌}
 use lib.ListN.{length}
 use Rattle.deal.specs.Dealing.{takers_before}
-use borrow.Author.Rules.{rules}
 use Rattle.deal.proofs.dealer.member_past.Given as goal
 
 abbrev pub invariant-loop-i : goal.invariant-loop-i

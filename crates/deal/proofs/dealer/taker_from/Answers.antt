@@ -1,7 +1,3 @@
-use Prim.Native.Nat.{◌≤◌, ◌-◌}
-use mathlib.Core.Path.{◌≡◌}
-use lib.ListN.{length}
-use Rattle.deal.specs.Dealing.{takers_before}
 use Rattle.deal.proofs.DealerLaws.{takers_skip}
 use borrow.Author.Rules.{rules}
 use Rattle.deal.proofs.dealer.taker_from.Goals as goal

@@ -3,8 +3,6 @@ use Prim.Native.Nat.{◌≤◌, ◌-◌}
 use mathlib.Core.Path.{◌≡◌}
 use lib.ListN.{length}
 use Rattle.deal.specs.Dealing.{takers_before}
-use Rattle.deal.proofs.DealerLaws.{takers_skip}
-use borrow.Author.Rules.{rules}
 use Rattle.deal.proofs.dealer.taker_from.Given as goal
 
 abbrev pub invariant-loop-i : goal.invariant-loop-i

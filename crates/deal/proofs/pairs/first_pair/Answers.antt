@@ -1,6 +1,5 @@
 -- A refusal comes with zeros; otherwise both clusters can be dealt.
 use Rattle.deal.proofs.PairLaws.{deals_sending, deals_receiving, pair_refused, pair_answered}
-use borrow.Author.Rules.{rules}
 use Rattle.deal.proofs.pairs.first_pair.Goals as goal
 
 pub returns-then-n-ne0 : goal.returns-then-n-ne0

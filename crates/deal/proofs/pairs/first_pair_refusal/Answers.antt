@@ -1,7 +1,6 @@
 -- Each answer is that of the first check that fails.
 use Rattle.basics.proofs.CheckLaws.{checks}
 use Rattle.deal.proofs.PairLaws.{first_pair_clusters, first_pair_judged}
-use borrow.Author.Rules.{rules}
 use Rattle.deal.proofs.pairs.first_pair_refusal.Goals as goal
 
 pub returns-then-n-ne0 : goal.returns-then-n-ne0

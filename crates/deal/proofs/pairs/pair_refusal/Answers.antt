@@ -1,7 +1,6 @@
 -- Each answer is that of the first check that fails.
 use Rattle.basics.proofs.CheckLaws.{checks}
 use Rattle.deal.proofs.JudgeLaws.{pair_sending, pair_receiving, pair_judged}
-use borrow.Author.Rules.{rules}
 use Rattle.deal.proofs.pairs.pair_refusal.Goals as goal
 
 pub returns-then-a-ne0 : goal.returns-then-a-ne0

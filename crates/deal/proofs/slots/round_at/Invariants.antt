@@ -3,11 +3,7 @@ use Prim.Native.Nat.{◌≤◌, ◌-◌, min}
 use mathlib.Core.Path.{◌≡◌}
 use lib.ListN.{length, get_or}
 use Rattle.basics.specs.Sums.{sum_below}
-use Rattle.basics.proofs.SumLaws.{sums}
-use Rattle.deal.specs.Rounds.{slots_before}
 use Rattle.deal.specs.Dealing.{takers_before}
-use Rattle.deal.proofs.DealerLaws.{takers_none, takers_turn, takers_done, slots_within}
-use borrow.Author.Rules.{rules}
 use Rattle.deal.proofs.slots.round_at.Given as goal
 
 abbrev pub invariant-loop-i : goal.invariant-loop-i

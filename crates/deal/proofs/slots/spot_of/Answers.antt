@@ -1,8 +1,3 @@
-use Prim.Native.Nat.{◌+◌, ◌≤◌, ◌-◌, ◌<◌}
-use mathlib.Core.Path.{◌≡◌}
-use lib.ListN.{length}
-use Rattle.deal.specs.Rounds.{slots_before}
-use Rattle.deal.specs.Dealing.{takers_before}
 use Rattle.deal.proofs.DealerLaws.{first_small, first_slots, first_early}
 use borrow.Author.Rules.{rules}
 use Rattle.deal.proofs.slots.spot_of.Goals as goal

@@ -4,8 +4,6 @@ use mathlib.Core.Path.{◌≡◌}
 use lib.ListN.{length}
 use Rattle.deal.specs.Rounds.{slots_before}
 use Rattle.deal.specs.Dealing.{takers_before}
-use Rattle.deal.proofs.DealerLaws.{first_small, first_slots, first_early}
-use borrow.Author.Rules.{rules}
 use Rattle.deal.proofs.slots.spot_of.Given as goal
 
 abbrev pub invariant-loop-takers : goal.invariant-loop-takers

@@ -1,7 +1,6 @@
 -- The test, as a number.
 use Rattle.basics.proofs.HowManyLaws.{one_le}
 use Rattle.hamilton.proofs.CountLaws.{as_number}
-use borrow.Author.Rules.{rules}
 use Rattle.deal.proofs.slots.takes_slot.Goals as goal
 
 pub returns : goal.returns

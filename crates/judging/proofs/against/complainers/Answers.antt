@@ -1,7 +1,4 @@
-use Prim.Native.Nat.{◌≤◌, ◌-◌}
-use Rattle.judging.specs.Verdicts.{complainers_of}
 use Rattle.judging.proofs.AgainstLaws.{complainers_start, complainers_turn, complainers_done}
-use mathlib.Core.Path.{◌≡◌}
 use borrow.Author.Rules.{rules}
 use Rattle.judging.proofs.against.complainers.Goals as goal
 

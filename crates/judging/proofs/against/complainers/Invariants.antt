@@ -1,9 +1,7 @@
 -- The invariant: those that complain of the messages in the first i places have come together.
 use Prim.Native.Nat.{◌≤◌, ◌-◌}
 use Rattle.judging.specs.Verdicts.{complainers_of}
-use Rattle.judging.proofs.AgainstLaws.{complainers_start, complainers_turn, complainers_done}
 use mathlib.Core.Path.{◌≡◌}
-use borrow.Author.Rules.{rules}
 use Rattle.judging.proofs.against.complainers.Given as goal
 
 abbrev pub invariant-loop-i : goal.invariant-loop-i

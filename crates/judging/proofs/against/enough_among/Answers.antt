@@ -1,10 +1,4 @@
-use Prim.Native.Nat.{◌≤◌, ◌-◌}
-use mathlib.Core.Path.{◌≡◌}
-use lib.ListN.{length}
-use Rattle.marks.specs.Masks.{is_marked, set_below}
 use Rattle.marks.proofs.SetLaws.{set_start, set_done}
-use Rattle.shares.specs.Shares.{share_of}
-use Rattle.judging.specs.Verdicts.{enough_against}
 use Rattle.judging.proofs.AgainstLaws.{enough_turn}
 use borrow.Author.Rules.{rules}
 use Rattle.judging.proofs.against.enough_among.Goals as goal

@@ -1,5 +1,4 @@
 -- Only the set changes.
-use borrow.Author.Rules.{rules}
 use Rattle.judging.proofs.complaints.complained.Goals as goal
 
 pub returns : goal.returns

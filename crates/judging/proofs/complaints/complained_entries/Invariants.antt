@@ -3,8 +3,6 @@ use Prim.Native.Nat.{◌≤◌, ◌-◌}
 use mathlib.Core.Path.{◌≡◌}
 use Rattle.marks.specs.Held.{highest_of}
 use Rattle.judging.specs.Complaints.{complained_entry, entries_after}
-use Rattle.judging.proofs.PlaceLaws.{entries_start, entries_turn, entries_done}
-use borrow.Author.Rules.{rules}
 use Rattle.judging.proofs.complaints.complained_entries.Given as goal
 
 abbrev pub invariant-loop-o : goal.invariant-loop-o

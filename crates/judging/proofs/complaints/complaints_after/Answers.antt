@@ -1,6 +1,5 @@
 -- What the report holds takes the member out; a gap or a repeat puts it in; otherwise the set stays.
 use Rattle.judging.proofs.ComplaintLaws.{complaint_out, complaint_in, complaint_none}
-use borrow.Author.Rules.{rules}
 use Rattle.judging.proofs.complaints.complaints_after.Goals as goal
 
 pub returns-then-holds : goal.returns-then-holds

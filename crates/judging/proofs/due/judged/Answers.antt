@@ -1,6 +1,5 @@
 -- Only the entries change, each by its own step.
 use Rattle.judging.proofs.StepLaws.{judged_told}
-use borrow.Author.Rules.{rules}
 use Rattle.judging.proofs.due.judged.Goals as goal
 
 pub returns : goal.returns

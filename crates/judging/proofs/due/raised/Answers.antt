@@ -1,6 +1,5 @@
 -- The branch is the one of the definition.
 use Rattle.basics.proofs.BoolLaws.{branches}
-use borrow.Author.Rules.{rules}
 use Rattle.judging.proofs.due.raised.Goals as goal
 
 pub returns-then-is_marked : goal.returns-then-is_marked

@@ -1,11 +1,3 @@
-use Prim.Native.Nat.{ℕ, ◌≤◌, ◌-◌}
-use mathlib.Core.Path.{◌≡◌}
-use mathlib.Core.Bool.{cond}
-use lib.ListN.{get_or}
-use Rattle.marks.specs.Masks.{is_marked}
-use Rattle.downstream.specs.State.{no_entry}
-use Rattle.judging.specs.Complaints.{entries_after}
-use Rattle.judging.specs.Verdicts.{raised_entry}
 use Rattle.judging.proofs.PlaceLaws.{entries_start, entries_turn, entries_done}
 use borrow.Author.Rules.{rules}
 use Rattle.judging.proofs.due.raised_entries.Goals as goal

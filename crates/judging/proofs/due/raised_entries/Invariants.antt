@@ -7,8 +7,6 @@ use Rattle.marks.specs.Masks.{is_marked}
 use Rattle.downstream.specs.State.{no_entry}
 use Rattle.judging.specs.Complaints.{entries_after}
 use Rattle.judging.specs.Verdicts.{raised_entry}
-use Rattle.judging.proofs.PlaceLaws.{entries_start, entries_turn, entries_done}
-use borrow.Author.Rules.{rules}
 use Rattle.judging.proofs.due.raised_entries.Given as goal
 
 abbrev pub invariant-loop-o : goal.invariant-loop-o

@@ -3,11 +3,8 @@ use Prim.Native.Nat.{◌≤◌, ◌-◌}
 use mathlib.Core.Path.{◌≡◌}
 use lib.ListN.{length}
 use Rattle.marks.specs.Masks.{set_below}
-use Rattle.marks.proofs.SetLaws.{set_start, set_done}
 use Rattle.downstream.specs.Rows.{Steady}
 use Rattle.judging.specs.Verdicts.{is_lost}
-use Rattle.judging.proofs.LostLaws.{lost_turn}
-use borrow.Author.Rules.{rules}
 use Rattle.judging.proofs.lost.lost_among.Given as goal
 
 abbrev pub invariant-loop-o : goal.invariant-loop-o

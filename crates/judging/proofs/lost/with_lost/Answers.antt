@@ -1,7 +1,6 @@
 -- The branch is the one of the definition.
 use Rattle.judging.proofs.LostLaws.{lost_in}
 use Rattle.basics.proofs.BoolLaws.{branches}
-use borrow.Author.Rules.{rules}
 use Rattle.judging.proofs.lost.with_lost.Goals as goal
 
 pub returns-then-share-u : goal.returns-then-share-u

@@ -1,6 +1,5 @@
 -- Two digits behind two.
 use Rattle.lines.proofs.DigitLaws.{four_put}
-use borrow.Author.Rules.{rules}
 use Rattle.lines.proofs.digits.put_four.Goals as goal
 
 pub returns : goal.returns

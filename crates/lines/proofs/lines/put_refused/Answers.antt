@@ -1,7 +1,6 @@
 -- The words, and the number behind them.
 use Rattle.lines.proofs.LineLaws.{refused_parts, refused_end, both_put}
 use Rattle.lines.proofs.SizeLaws.{refused_number_room, refused_room}
-use borrow.Author.Rules.{rules}
 use Rattle.lines.proofs.lines.put_refused.Goals as goal
 
 pub put_field-requires : goal.put_field-requires

@@ -1,13 +1,10 @@
 -- The invariant: resend n starts at `pos`, and the lines of the resends before it stand in the output, up to `to`.
-use Rattle.lines.proofs.WalkLaws.{walk_start_end, walk_start, walk_short, walk_room, walk_turn_end, walk_turn, walk_done_end, walk_done}
-use Rattle.circle.proofs.PositionLaws.{on_circle, next_told}
 use Rattle.circle.specs.Positions.{position_of}
 use Rattle.lines.specs.Text.{put}
 use Rattle.lines.specs.Lines.{walk_lines}
 use Prim.Native.Nat.{◌+◌, ◌-◌, ◌≤◌}
 use mathlib.Core.Path.{◌≡◌}
 use lib.ListN.{length}
-use borrow.Author.Rules.{rules}
 use Rattle.lines.proofs.lines.put_walk.Given as goal
 
 abbrev pub invariant-loop-n : goal.invariant-loop-n

@@ -1,8 +1,4 @@
 use Rattle.lines.proofs.TextLaws.{bytes_start, bytes_turn, bytes_done}
-use Prim.Native.Nat.{◌≤◌, ◌-◌}
-use mathlib.Core.Path.{◌≡◌}
-use lib.ListN.{length}
-use lib.Seq.{paste}
 use borrow.Author.Rules.{rules}
 use Rattle.lines.proofs.text.put_bytes.Goals as goal
 

@@ -1,10 +1,8 @@
 -- The invariant: the first i bytes are copied, and the other places are as they were.
-use Rattle.lines.proofs.TextLaws.{bytes_start, bytes_turn, bytes_done}
 use Prim.Native.Nat.{◌≤◌, ◌-◌}
 use mathlib.Core.Path.{◌≡◌}
 use lib.ListN.{length}
 use lib.Seq.{paste}
-use borrow.Author.Rules.{rules}
 use Rattle.lines.proofs.text.put_bytes.Given as goal
 
 abbrev pub invariant-loop-i : goal.invariant-loop-i

@@ -1,6 +1,5 @@
 -- One field behind another.
 use Rattle.lines.proofs.LineLaws.{line_room, line_room_2, line_room_3, line_room_4, line_end, line_put}
-use borrow.Author.Rules.{rules}
 use Rattle.lines.proofs.text.put_line.Goals as goal
 
 pub put_field-a-requires : goal.put_field-a-requires

@@ -1,6 +1,5 @@
 -- A refusal is passed on with zeros; an accepted call answers with the walk from the original sender.
 use Rattle.resend.proofs.ResendLaws.{answering, resend_refused, resend_told}
-use borrow.Author.Rules.{rules}
 use Rattle.resend.proofs.pairs.resend_pair.Goals as goal
 
 pub returns-then-refusal-ne0 : goal.returns-then-refusal-ne0

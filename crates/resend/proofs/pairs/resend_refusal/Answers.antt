@@ -1,6 +1,5 @@
 -- Each answer is that of the first check that fails.
 use Rattle.resend.proofs.ResendLaws.{judged}
-use borrow.Author.Rules.{rules}
 use Rattle.resend.proofs.pairs.resend_refusal.Goals as goal
 
 pub returns-then-judged-ne0 : goal.returns-then-judged-ne0

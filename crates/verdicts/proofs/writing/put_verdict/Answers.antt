@@ -1,6 +1,5 @@
 -- Five parts, each behind the one before it.
 use Rattle.verdicts.proofs.WriteLaws.{put_verdict}
-use borrow.Author.Rules.{rules}
 use Rattle.verdicts.proofs.writing.put_verdict.Goals as goal
 
 pub returns : goal.returns

@@ -1,10 +1,3 @@
-use Prim.Native.Nat.{ℕ, ◌+◌, ◌≤◌, ◌-◌, ◌*◌, ◌%◌}
-use mathlib.Core.Path.{◌≡◌}
-use mathlib.Core.List.{◌++◌}
-use lib.ListN.{length, drop, get_or}
-use Rattle.circle.specs.TurnTable.{TurnTable}
-use Rattle.deal.specs.Dealing.{Dealing}
-use Rattle.verdicts.specs.Written.{verdicts_to, Ready}
 use Rattle.verdicts.proofs.DealtLaws.{ready_few, ready_whole, ready_slot, ready_below, dealt_member, dealt_sender, slot_start, slot_next}
 use Rattle.verdicts.proofs.WriteLaws.{small_count, small_fits, put_from, written_start, written_none, written_at, written_turn, written_bound, written_kept, written_done, written_length}
 use borrow.Author.Rules.{rules}

@@ -1,6 +1,5 @@
 -- The members, their bounds, and their shares in 64 places.
 use Rattle.window.proofs.OpenLaws.{members_fit_lem, cluster_told}
-use borrow.Author.Rules.{rules}
 use Rattle.window.proofs.opening.cluster_from.Goals as goal
 
 pub overflow_cast-members : goal.overflow_cast-members

@@ -1,5 +1,4 @@
 -- The state that the two clusters give.
-use borrow.Author.Rules.{rules}
 use Rattle.window.proofs.opening.no_window.Goals as goal
 
 pub returns : goal.returns

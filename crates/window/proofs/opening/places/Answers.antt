@@ -1,9 +1,5 @@
 use Rattle.window.proofs.OpenLaws.{places_turn, places_done}
-use Prim.Native.Nat.{◌≤◌, ◌-◌}
-use mathlib.Core.Path.{◌≡◌, refl}
-use mathlib.Core.List.{◌++◌}
-use lib.ListN.{length, drop, get_or, replicate}
-use Rattle.basics.specs.Sums.{list_below}
+use mathlib.Core.Path.{refl}
 use Rattle.basics.proofs.SumLaws.{list_start}
 use Rattle.window.proofs.OpenLaws.{places_done}
 use borrow.Author.Rules.{rules}

@@ -1,13 +1,9 @@
 -- The invariant: the places before i hold the shares, and those from i on are zero.
-use Rattle.window.proofs.OpenLaws.{places_turn, places_done}
 use Prim.Native.Nat.{◌≤◌, ◌-◌}
-use mathlib.Core.Path.{◌≡◌, refl}
+use mathlib.Core.Path.{◌≡◌}
 use mathlib.Core.List.{◌++◌}
 use lib.ListN.{length, drop, get_or, replicate}
 use Rattle.basics.specs.Sums.{list_below}
-use Rattle.basics.proofs.SumLaws.{list_start}
-use Rattle.window.proofs.OpenLaws.{places_done}
-use borrow.Author.Rules.{rules}
 use Rattle.window.proofs.opening.places.Given as goal
 
 abbrev pub invariant-loop-i : goal.invariant-loop-i

@@ -1,7 +1,6 @@
 -- Each answer is that of the first check that fails.
 use Rattle.basics.proofs.CheckLaws.{checks}
 use Rattle.window.specs.Reporting.{given_refusal}
-use borrow.Author.Rules.{rules}
 use Rattle.window.proofs.refusing.given_refusal.Goals as goal
 
 pub returns-then-room-lt1024 : goal.returns-then-room-lt1024

@@ -1,7 +1,6 @@
 -- 17 first, then what S and p say.
 use Rattle.window.proofs.SendLaws.{send_17, sent_small, point_small, send_next}
 use borrow.Author.Tests.{not-true, not-false}
-use borrow.Author.Rules.{rules}
 use Rattle.window.proofs.sending.send_refusal.Goals as goal
 
 pub returns-then-not-well_formed : goal.returns-then-not-well_formed

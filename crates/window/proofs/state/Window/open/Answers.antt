@@ -1,6 +1,5 @@
 -- A refusal hands back zeros; accepted clusters are kept as they were lent.
 use Rattle.window.proofs.OpenLaws.{open_refused, open_sending, open_receiving, open_told}
-use borrow.Author.Rules.{rules}
 use Rattle.window.proofs.state.Window.open.Goals as goal
 
 pub returns-then-refusal-ne0 : goal.returns-then-refusal-ne0

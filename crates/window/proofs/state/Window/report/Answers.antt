@@ -1,6 +1,5 @@
 -- A refusal changes nothing; an accepted report goes through its steps.
 use Rattle.window.proofs.ReportLaws.{report_refused, report_kept_lem, report_ready, report_told, report_out_lem}
-use borrow.Author.Rules.{rules}
 use Rattle.window.proofs.state.Window.report.Goals as goal
 
 pub returns-then-refusal-ne0 : goal.returns-then-refusal-ne0

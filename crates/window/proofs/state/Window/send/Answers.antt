@@ -1,6 +1,5 @@
 -- Accepted, only S changes; refused, nothing does.
 use Rattle.window.proofs.SendLaws.{sent_on, sent_not}
-use borrow.Author.Rules.{rules}
 use Rattle.window.proofs.state.Window.send.Goals as goal
 
 pub returns-then-refusal-eq0 : goal.returns-then-refusal-eq0

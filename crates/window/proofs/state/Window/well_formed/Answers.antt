@@ -1,6 +1,5 @@
 -- Every clause is judged by its own function.
 use Rattle.window.proofs.FormedLaws.{formed_told}
-use borrow.Author.Rules.{rules}
 use Rattle.window.proofs.state.Window.well_formed.Goals as goal
 
 pub returns : goal.returns
