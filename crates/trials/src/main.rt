@@ -23,12 +23,9 @@ mod plans;
 mod words;
 
 use std::io;
-use std::io::{BufWriter, Write};
 
 fn main(rt: HostRuntime) -> io::Result<()> {
     let mut space = [0u8; 65_536];
     let n = script::lines::read_full(&mut rt.stdin(), &mut space)?;
-    let mut to = BufWriter::new(rt.alloc(), rt.stdout())?;
-    lines::run_all(&mut to, &space[..n])?;
-    to.flush()
+    lines::run_all(&mut rt.stdout(), &space[..n])
 }

@@ -1,6 +1,5 @@
 -- The answer, and its numbers in their places.
 use Rattle.link.proofs.NumberLaws.{pair_refusal_lem, pair_numbers_lem}
-use borrow.Author.Rules.{rules}
 use Rattle.link.proofs.deals.havdorlek_first_pair.Goals as goal
 
 pub returns : goal.returns

@@ -1,6 +1,5 @@
 -- The answer, and its numbers in their places.
 use Rattle.link.proofs.NumberLaws.{resend_refusal_lem, resend_numbers_lem}
-use borrow.Author.Rules.{rules}
 use Rattle.link.proofs.deals.havdorlek_resend_pair.Goals as goal
 
 pub returns : goal.returns

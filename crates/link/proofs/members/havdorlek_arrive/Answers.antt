@@ -1,6 +1,5 @@
 -- The answer, and its numbers in their places.
 use Rattle.link.proofs.NumberLaws.{arrival_refusal_lem, arrival_words}
-use borrow.Author.Rules.{rules}
 use Rattle.link.proofs.members.havdorlek_arrive.Goals as goal
 
 pub returns : goal.returns

@@ -1,6 +1,5 @@
 -- The two words of fresh holdings.
 use Rattle.link.proofs.NumberLaws.{holdings_words_lem}
-use borrow.Author.Rules.{rules}
 use Rattle.link.proofs.members.havdorlek_fresh.Goals as goal
 
 pub returns : goal.returns

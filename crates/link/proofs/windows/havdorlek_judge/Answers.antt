@@ -1,6 +1,5 @@
 -- As the words are judged.
 use Rattle.link.proofs.WindowLaws.{judge_formed, judge_not}
-use borrow.Author.Rules.{rules}
 use Rattle.link.proofs.windows.havdorlek_judge.Goals as goal
 
 pub returns-then-formed : goal.returns-then-formed

@@ -1,7 +1,6 @@
 -- Ill-formed words are 17 and stay; so do those of a refused call; an accepted one puts S alone.
 use Rattle.link.proofs.WindowLaws.{fit_known, sent_in_range, point_in_range, send_ill, send_ill_words, send_is, send_refused_words, send_done, send_done_words}
 use borrow.Author.Tests.{not-true, not-false}
-use borrow.Author.Rules.{rules}
 use Rattle.link.proofs.windows.havdorlek_send.Goals as goal
 
 pub returns-then-not-formed : goal.returns-then-not-formed

@@ -1,8 +1,5 @@
-use Prim.Native.Nat.{◌≤◌, ◌+◌}
-use mathlib.Core.Path.{◌≡◌, refl}
-use lib.ListN.{length}
-use Rattle.steps.specs.Columns.{changed_at}
-use Rattle.steps.proofs.ChangeLaws.{SmallAt, fewer_left, small_start, small_here, small_turn, changed_turn, changed_done}
+use mathlib.Core.Path.{refl}
+use Rattle.steps.proofs.ChangeLaws.{fewer_left, small_start, small_here, small_turn, changed_turn, changed_done}
 use borrow.Author.Rules.{rules}
 use Rattle.steps.proofs.changing.raise.Goals as goal
 

@@ -1,10 +1,9 @@
 -- The invariant: what is left to change gives both columns as they are to be.
 use Prim.Native.Nat.{◌≤◌, ◌+◌}
-use mathlib.Core.Path.{◌≡◌, refl}
+use mathlib.Core.Path.{◌≡◌}
 use lib.ListN.{length}
 use Rattle.steps.specs.Columns.{changed_at}
-use Rattle.steps.proofs.ChangeLaws.{SmallAt, fewer_left, small_start, small_here, small_turn, changed_turn, changed_done}
-use borrow.Author.Rules.{rules}
+use Rattle.steps.proofs.ChangeLaws.{SmallAt}
 use Rattle.steps.proofs.changing.raise.Given as goal
 
 abbrev pub invariant-loop-rest : goal.invariant-loop-rest

@@ -1,7 +1,4 @@
-use Prim.Native.Nat.{◌≤◌}
-use mathlib.Core.Path.{◌≡◌, refl}
-use lib.ListN.{length}
-use Rattle.steps.specs.Columns.{changed_at, told_set}
+use mathlib.Core.Path.{refl}
 use Rattle.steps.proofs.ChangeLaws.{fewer_left, changed_turn, changed_done}
 use borrow.Author.Rules.{rules}
 use Rattle.steps.proofs.changing.tell.Goals as goal

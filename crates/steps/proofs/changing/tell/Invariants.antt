@@ -1,10 +1,8 @@
 -- The invariant: what is left to change gives the sets as they are to be.
 use Prim.Native.Nat.{◌≤◌}
-use mathlib.Core.Path.{◌≡◌, refl}
+use mathlib.Core.Path.{◌≡◌}
 use lib.ListN.{length}
 use Rattle.steps.specs.Columns.{changed_at, told_set}
-use Rattle.steps.proofs.ChangeLaws.{fewer_left, changed_turn, changed_done}
-use borrow.Author.Rules.{rules}
 use Rattle.steps.proofs.changing.tell.Given as goal
 
 abbrev pub invariant-loop-rest : goal.invariant-loop-rest

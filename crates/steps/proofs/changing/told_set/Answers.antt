@@ -1,7 +1,6 @@
 -- The branch is the one of the definition.
 use Rattle.basics.proofs.BoolLaws.{branches}
 use Rattle.steps.specs.Columns.{told_set}
-use borrow.Author.Rules.{rules}
 use Rattle.steps.proofs.changing.told_set.Goals as goal
 
 pub returns-then-complains : goal.returns-then-complains

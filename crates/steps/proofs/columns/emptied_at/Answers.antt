@@ -1,13 +1,5 @@
-use Prim.Native.Nat.{◌≤◌, ◌-◌, ◌+◌}
-use mathlib.Core.Path.{◌≡◌, refl}
-use mathlib.Core.Bool.{cond}
-use mathlib.Core.List.{◌++◌}
-use lib.Dec.{ltb}
-use lib.ListN.{length, drop, replicate}
-use Rattle.basics.specs.Sums.{list_below}
+use mathlib.Core.Path.{refl}
 use Rattle.basics.proofs.SumLaws.{list_start}
-use Rattle.downstream.specs.State.{offset_at}
-use Rattle.words.specs.Taken.{word_at}
 use Rattle.words.proofs.ColumnLaws.{fill_turn, fill_done}
 use Rattle.steps.specs.Columns.{open_at}
 use borrow.Author.Rules.{rules}

@@ -1,17 +1,13 @@
 -- The invariant: the places before j are filled.
 use Prim.Native.Nat.{◌≤◌, ◌-◌, ◌+◌}
-use mathlib.Core.Path.{◌≡◌, refl}
+use mathlib.Core.Path.{◌≡◌}
 use mathlib.Core.Bool.{cond}
 use mathlib.Core.List.{◌++◌}
 use lib.Dec.{ltb}
 use lib.ListN.{length, drop, replicate}
 use Rattle.basics.specs.Sums.{list_below}
-use Rattle.basics.proofs.SumLaws.{list_start}
 use Rattle.downstream.specs.State.{offset_at}
 use Rattle.words.specs.Taken.{word_at}
-use Rattle.words.proofs.ColumnLaws.{fill_turn, fill_done}
-use Rattle.steps.specs.Columns.{open_at}
-use borrow.Author.Rules.{rules}
 use Rattle.steps.proofs.columns.emptied_at.Given as goal
 
 abbrev pub invariant-loop-j : goal.invariant-loop-j

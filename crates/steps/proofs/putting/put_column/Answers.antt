@@ -1,8 +1,3 @@
-use Prim.Native.Nat.{◌≤◌, ◌-◌}
-use mathlib.Core.Path.{◌≡◌}
-use mathlib.Core.List.{◌++◌}
-use lib.ListN.{length, drop, get_or}
-use Rattle.basics.specs.Sums.{list_below}
 use Rattle.basics.proofs.SumLaws.{list_start}
 use Rattle.words.proofs.ColumnLaws.{fill_turn}
 use Rattle.steps.proofs.StoreLaws.{column_put}

@@ -4,10 +4,6 @@ use mathlib.Core.Path.{◌≡◌}
 use mathlib.Core.List.{◌++◌}
 use lib.ListN.{length, drop, get_or}
 use Rattle.basics.specs.Sums.{list_below}
-use Rattle.basics.proofs.SumLaws.{list_start}
-use Rattle.words.proofs.ColumnLaws.{fill_turn}
-use Rattle.steps.proofs.StoreLaws.{column_put}
-use borrow.Author.Rules.{rules}
 use Rattle.steps.proofs.putting.put_column.Given as goal
 
 abbrev pub invariant-loop-j : goal.invariant-loop-j

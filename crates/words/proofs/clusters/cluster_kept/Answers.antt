@@ -1,6 +1,5 @@
 -- A cluster without members has none that are past its end.
 use Rattle.words.proofs.ClusterLaws.{clusters}
-use borrow.Author.Rules.{rules}
 use Rattle.words.proofs.clusters.cluster_kept.Goals as goal
 
 pub returns-then-members-lt1 : goal.returns-then-members-lt1

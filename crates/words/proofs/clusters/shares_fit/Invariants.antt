@@ -1,6 +1,4 @@
 -- The invariant: the shares before i are allowed exactly where `off` is 0.
-use Rattle.words.proofs.StraightLaws.{offs}
-use Rattle.words.proofs.ClusterLaws.{fits_done}
 use Rattle.words.specs.Taken.{word_at, none_above}
 use Rattle.shares.specs.Cluster.{is_share}
 use Rattle.basics.specs.Sums.{all_below}
@@ -8,7 +6,6 @@ use lib.Dec.{eqb}
 use mathlib.Core.Bool.{true}
 use mathlib.Core.Path.{◌≡◌}
 use Prim.Native.Nat.{◌≤◌, ◌-◌, ◌+◌}
-use borrow.Author.Rules.{rules}
 use Rattle.words.proofs.clusters.shares_fit.Given as goal
 
 abbrev pub invariant-loop-i : goal.invariant-loop-i

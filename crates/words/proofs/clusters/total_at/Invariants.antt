@@ -1,12 +1,9 @@
 -- The invariant: `sum` is that of the shares before i, and each of them has 32 bits.
-use Rattle.words.proofs.ClusterLaws.{total_done}
 use Rattle.words.specs.Taken.{word_at, none_above}
 use Rattle.basics.specs.Sums.{sum_below}
-use Rattle.basics.proofs.SumLaws.{sums}
 use mathlib.Core.Bool.{true}
 use mathlib.Core.Path.{◌≡◌}
 use Prim.Native.Nat.{◌≤◌, ◌-◌, ◌+◌, ◌*◌}
-use borrow.Author.Rules.{rules}
 use Rattle.words.proofs.clusters.total_at.Given as goal
 
 abbrev pub invariant-loop-i : goal.invariant-loop-i

@@ -1,6 +1,5 @@
 -- Where all are empty, and else.
 use Rattle.words.proofs.EntryLaws.{entries}
-use borrow.Author.Rules.{rules}
 use Rattle.words.proofs.entries.entries_kept.Goals as goal
 
 pub returns-then-counts-sets-eq0 : goal.returns-then-counts-sets-eq0

@@ -1,6 +1,5 @@
 -- Where nobody complains, where a closed place has a set, and else.
 use Rattle.words.proofs.EntryLaws.{sets}
-use borrow.Author.Rules.{rules}
 use Rattle.words.proofs.entries.sets_kept.Goals as goal
 
 pub returns-then-sets-eq0 : goal.returns-then-sets-eq0

@@ -1,6 +1,5 @@
 -- The sets are asked of the three columns as they lie in the words.
 use Rattle.words.proofs.EntryLaws.{told_done}
-use borrow.Author.Rules.{rules}
 use Rattle.words.proofs.entries.sets_told.Goals as goal
 
 pub returns : goal.returns

@@ -1,11 +1,7 @@
 use Rattle.words.proofs.ColumnLaws.{fill_turn, fill_done}
-use Rattle.words.specs.Taken.{word_at, column_at}
+use Rattle.words.specs.Taken.{column_at}
 use Rattle.basics.proofs.SumLaws.{list_start}
-use Rattle.basics.specs.Sums.{list_below}
-use lib.ListN.{length, drop, replicate}
-use mathlib.Core.List.{◌++◌}
-use mathlib.Core.Path.{◌≡◌, refl}
-use Prim.Native.Nat.{◌≤◌, ◌-◌, ◌+◌}
+use mathlib.Core.Path.{refl}
 use borrow.Author.Rules.{rules}
 use Rattle.words.proofs.judgement.column_at.Goals as goal
 

@@ -1,13 +1,10 @@
 -- The invariant: the words before i are copied.
-use Rattle.words.proofs.ColumnLaws.{fill_turn, fill_done}
-use Rattle.words.specs.Taken.{word_at, column_at}
-use Rattle.basics.proofs.SumLaws.{list_start}
+use Rattle.words.specs.Taken.{word_at}
 use Rattle.basics.specs.Sums.{list_below}
 use lib.ListN.{length, drop, replicate}
 use mathlib.Core.List.{◌++◌}
-use mathlib.Core.Path.{◌≡◌, refl}
+use mathlib.Core.Path.{◌≡◌}
 use Prim.Native.Nat.{◌≤◌, ◌-◌, ◌+◌}
-use borrow.Author.Rules.{rules}
 use Rattle.words.proofs.judgement.column_at.Given as goal
 
 abbrev pub invariant-loop-i : goal.invariant-loop-i

@@ -1,10 +1,5 @@
-use Prim.Native.Nat.{◌≤◌, ◌-◌}
-use mathlib.Core.Path.{◌≡◌}
-use mathlib.Core.List.{◌++◌}
-use lib.ListN.{length, drop, get_or}
-use Rattle.basics.specs.Sums.{list_below}
+use lib.ListN.{get_or}
 use Rattle.basics.proofs.SumLaws.{list_start}
-use Rattle.words.specs.Put.{zeros}
 use Rattle.words.proofs.PutLaws.{before_zeros, none_past}
 use Rattle.words.proofs.ColumnLaws.{fill_next}
 use borrow.Author.Rules.{rules}

@@ -4,11 +4,7 @@ use mathlib.Core.Path.{◌≡◌}
 use mathlib.Core.List.{◌++◌}
 use lib.ListN.{length, drop, get_or}
 use Rattle.basics.specs.Sums.{list_below}
-use Rattle.basics.proofs.SumLaws.{list_start}
 use Rattle.words.specs.Put.{zeros}
-use Rattle.words.proofs.PutLaws.{before_zeros, none_past}
-use Rattle.words.proofs.ColumnLaws.{fill_next}
-use borrow.Author.Rules.{rules}
 use Rattle.words.proofs.opening.put_shares.Given as goal
 
 abbrev pub invariant-loop-i : goal.invariant-loop-i

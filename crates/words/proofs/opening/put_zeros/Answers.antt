@@ -1,10 +1,5 @@
 use Rattle.words.proofs.PutLaws.{zeros_turn, zeros_done}
 use Rattle.basics.proofs.SumLaws.{list_start}
-use Rattle.basics.specs.Sums.{list_below}
-use lib.ListN.{length, drop}
-use mathlib.Core.List.{◌++◌}
-use mathlib.Core.Path.{◌≡◌}
-use Prim.Native.Nat.{◌≤◌, ◌-◌}
 use borrow.Author.Rules.{rules}
 use Rattle.words.proofs.opening.put_zeros.Goals as goal
 

@@ -1,11 +1,5 @@
 use Rattle.words.proofs.PointLaws.{reached_done}
-use Rattle.words.specs.Taken.{word_at, none_above}
-use Rattle.basics.specs.Sums.{sum_below}
 use Rattle.basics.proofs.SumLaws.{sums}
-use lib.Dec.{leb}
-use mathlib.Core.Bool.{true, cond}
-use mathlib.Core.Path.{◌≡◌}
-use Prim.Native.Nat.{◌≤◌, ◌-◌, ◌+◌, ◌*◌}
 use borrow.Author.Rules.{rules}
 use Rattle.words.proofs.point.reached.Goals as goal
 

@@ -1,13 +1,10 @@
 -- The invariant: `sum` is that of the members before i that reach g, and each share has 32 bits.
-use Rattle.words.proofs.PointLaws.{reached_done}
 use Rattle.words.specs.Taken.{word_at, none_above}
 use Rattle.basics.specs.Sums.{sum_below}
-use Rattle.basics.proofs.SumLaws.{sums}
 use lib.Dec.{leb}
 use mathlib.Core.Bool.{true, cond}
 use mathlib.Core.Path.{◌≡◌}
 use Prim.Native.Nat.{◌≤◌, ◌-◌, ◌+◌, ◌*◌}
-use borrow.Author.Rules.{rules}
 use Rattle.words.proofs.point.reached.Given as goal
 
 abbrev pub invariant-loop-i : goal.invariant-loop-i

@@ -2,10 +2,8 @@
 use Rattle.words.specs.Taken.{report_in}
 use Rattle.downstream.specs.Formed.{report_kept}
 use Rattle.basics.specs.Sums.{all_below}
-use Rattle.basics.proofs.SumLaws.{alls}
 use mathlib.Core.Path.{◌≡◌}
 use Prim.Native.Nat.{◌≤◌, ◌-◌}
-use borrow.Author.Rules.{rules}
 use Rattle.words.proofs.reports.members_kept.Given as goal
 
 abbrev pub invariant-loop-i : goal.invariant-loop-i

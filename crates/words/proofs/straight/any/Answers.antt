@@ -1,7 +1,4 @@
 use Rattle.words.proofs.StraightLaws.{anys}
-use Rattle.words.specs.Straight.{any_in}
-use mathlib.Core.Path.{◌≡◌}
-use Prim.Native.Nat.{◌≤◌, ◌-◌, ◌+◌}
 use borrow.Author.Rules.{rules}
 use Rattle.words.proofs.straight.any.Goals as goal
 

@@ -1,9 +1,7 @@
 -- The invariant: the bits of the words before i are gathered.
-use Rattle.words.proofs.StraightLaws.{anys}
 use Rattle.words.specs.Straight.{any_in}
 use mathlib.Core.Path.{◌≡◌}
 use Prim.Native.Nat.{◌≤◌, ◌-◌, ◌+◌}
-use borrow.Author.Rules.{rules}
 use Rattle.words.proofs.straight.any.Given as goal
 
 abbrev pub invariant-loop-i : goal.invariant-loop-i

@@ -1,11 +1,6 @@
-use Prim.Native.Nat.{◌≤◌, ◌-◌, ◌+◌}
-use mathlib.Core.Path.{◌≡◌, refl}
-use mathlib.Core.Bool.{true}
-use mathlib.Core.List.{◌++◌}
-use lib.ListN.{length, drop, replicate}
-use Rattle.basics.specs.Sums.{list_below}
+use mathlib.Core.Path.{refl}
 use Rattle.basics.proofs.SumLaws.{list_start}
-use Rattle.words.specs.Taken.{word_at, fits, column_at}
+use Rattle.words.specs.Taken.{column_at}
 use Rattle.words.proofs.ColumnLaws.{fill_turn, fill_done}
 use Rattle.words.proofs.FitLaws.{share_at}
 use borrow.Author.Rules.{rules}

@@ -1,15 +1,11 @@
 -- The invariant: the shares before i are taken.
 use Prim.Native.Nat.{◌≤◌, ◌-◌, ◌+◌}
-use mathlib.Core.Path.{◌≡◌, refl}
+use mathlib.Core.Path.{◌≡◌}
 use mathlib.Core.Bool.{true}
 use mathlib.Core.List.{◌++◌}
 use lib.ListN.{length, drop, replicate}
 use Rattle.basics.specs.Sums.{list_below}
-use Rattle.basics.proofs.SumLaws.{list_start}
-use Rattle.words.specs.Taken.{word_at, fits, column_at}
-use Rattle.words.proofs.ColumnLaws.{fill_turn, fill_done}
-use Rattle.words.proofs.FitLaws.{share_at}
-use borrow.Author.Rules.{rules}
+use Rattle.words.specs.Taken.{word_at, fits}
 use Rattle.words.proofs.taking.shares_at.Given as goal
 
 abbrev pub invariant-loop-i : goal.invariant-loop-i
