@@ -12,9 +12,9 @@
 #![tactic(auto)]
 
 mod bytes;
+mod cases;
 mod circles;
 mod clusters;
-mod lines;
 mod links;
 mod masks;
 mod numbers;
@@ -27,5 +27,5 @@ use std::io;
 fn main(rt: HostRuntime) -> io::Result<()> {
     let mut space = [0u8; 65_536];
     let n = script::lines::read_full(&mut rt.stdin(), &mut space)?;
-    lines::run_all(&mut rt.stdout(), &space[..n])
+    cases::run_all(&mut rt.stdout(), &space[..n])
 }

@@ -1,6 +1,7 @@
 -- Every clause but the span's and the cluster's, which say that no sum wraps.
-use Rattle.words.proofs.JudgeLaws.{words_kept}
+use Rattle.words.proofs.JudgeLaws.{words_kept, words_told}
 use borrow.Author.Rules.{rules}
+use borrow.Author.Tests.{not-true, not-false}
 use Rattle.words.proofs.judgement.parts_kept.Goals as goal
 
 pub overflow_cast-n : goal.overflow_cast-n
@@ -19,4 +20,4 @@ pub entries_kept-open-requires : goal.entries_kept-open-requires
 entries_kept-open-requires c = (search words_kept, search words_kept, search words_kept, search words_kept)
 
 pub returns : goal.returns
-returns c = search words_kept
+returns c = search (words_told, not-true, not-false)

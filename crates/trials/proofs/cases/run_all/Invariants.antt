@@ -1,6 +1,6 @@
 -- Each turn starts past the end of the line before it.
 use Rattle.std.proofs.Common.{◌-◌, ◌≤◌, length}
-use Rattle.trials.proofs.lines.run_all.Given as goal
+use Rattle.trials.proofs.cases.run_all.Given as goal
 
 abbrev pub invariant-loop-start : goal.invariant-loop-start
 invariant-loop-start g l = l.start ≤ length l.cases
