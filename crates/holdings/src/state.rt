@@ -28,6 +28,7 @@ pub fn fresh() -> Holdings
 
 // Whether bit 0 is clear and nothing is held above the highest message number. Where c lies 64 or more below it, as it nearly always
 // does, no mark reaches above.
+#[tactic(auto, using(crate::proofs::ArrivalLaws::formed_far))]
 pub fn well_formed(h: Holdings) -> bool
     ensures { result ≡ well_formed h }
 {

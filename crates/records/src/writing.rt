@@ -8,6 +8,7 @@ use crate::{Refusal, WriteAnswer};
 use basics::put_number;
 
 // Writes the record with these fields, or says why not and changes nothing. A report is asked for first, since it may have any fields.
+#[tactic(auto, using(crate::proofs::WriteLaws::writes))]
 pub fn write(kind: u8, member: u8, number: u64, mask: u64, out: &mut [u8]) -> WriteAnswer
     ensures { (wrote_number result ≡ write_refusal kind member number mask (length out.old)) × (out.new ≡ written_of kind member number mask out.old) }
 {
@@ -24,6 +25,7 @@ pub fn write(kind: u8, member: u8, number: u64, mask: u64, out: &mut [u8]) -> Wr
 }
 
 // Writes a record whose kind and fields may be written, if there is room.
+#[tactic(auto, using(crate::proofs::WriteLaws::writes))]
 fn write_kept(kind: u8, member: u8, number: u64, mask: u64, out: &mut [u8]) -> WriteAnswer
     requires { (kind ≤ 2) × (fields_kept kind member number mask ≡ true) }
     ensures { (wrote_number result ≡ write_refusal kind member number mask (length out.old)) × (out.new ≡ written_of kind member number mask out.old) }
