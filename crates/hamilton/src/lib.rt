@@ -2,6 +2,7 @@
 #![tactic(auto)]
 
 mod counting;
+mod division;
 mod quotas;
 mod ranks;
 

@@ -1,9 +1,10 @@
--- From the table where it has the start, and by the walk elsewhere.
-use Rattle.circle.proofs.TableLaws.{table_told, ends_told}
+-- The table has the step with which the stretch of the following member begins, and from there the steps of the whole turn.
+use Rattle.circle.proofs.TableLaws.{table_begun, table_told}
+use borrow.Author.Rules.{rules}
 use Rattle.circle.proofs.table.ends_in_turn.Goals as goal
 
-pub returns-then-begin-steps : goal.returns-then-begin-steps
-returns-then-begin-steps c = search table_told
+pub step_of-j-requires : goal.step_of-j-requires
+step_of-j-requires c = (search table_begun, search rules, search rules, search rules)
 
 pub returns : goal.returns
-returns c = search ends_told
+returns c = search table_told
