@@ -7,11 +7,10 @@ pub mod StepLaws
 pub mod WalkLaws
 pub mod PositionLaws
 pub mod PeriodLaws
+pub mod TableLaws
 pub mod FailedUnits
 pub mod Turn
 pub mod Rounds
 pub mod OneTurn
-pub mod WholeTurn
-pub mod TableLaws
 pub mod FirstGood
 pub mod Unique

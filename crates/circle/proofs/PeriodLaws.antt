@@ -1,5 +1,5 @@
 -- The walk goes round: from equal positions it goes on equally, so that once it is back, whole turns may be left out. Assumes nothing.
-use mathlib.Core.Path.{◌≡◌, refl, ap, ap₂, sym, ◌∙◌}
+use mathlib.Core.Path.{◌≡◌, ap, ap₂, sym, ◌∙◌}
 use mathlib.Core.Logic.{inl, inr}
 use mathlib.Core.Bool.{Bool, true, cond}
 use mathlib.Core.List.{List}
@@ -7,7 +7,7 @@ use Prim.Native.Nat.{ℕ, zero, suc, ◌+◌, ◌-◌, ◌*◌, ◌/◌, ◌%◌
 use native.Mathlib.Nat.{div-add-mod', suc-mul}
 use native.Mathlib.Omega.{arith}
 use lib.Dec.{eqb}
-use borrow.Author.Tests.{eqb-true, eq-eqb}
+use borrow.Author.Tests.{eqb-true}
 use Rattle.basics.proofs.BoolLaws.{bool_cases, and_left, and_right}
 use Rattle.circle.specs.Stretches.{same_place}
 use Rattle.circle.specs.Positions.{Sized, circle_of, position_of, same_position, next_of}
@@ -29,16 +29,6 @@ same_position_lem a b t =
     ap₂ (λ (p q : Place). record { sender = p; receiver = q })
     (same_place_lem a.sender b.sender (and_left (same_place a.sender b.sender) (same_place a.receiver b.receiver) t))
     (same_place_lem a.receiver b.receiver (and_right (same_place a.sender b.sender) (same_place a.receiver b.receiver) t))
-
-pub position_same : (a b : Position) → a ≡ b → same_position a b ≡ true
-unfolding same_position same_place
-position_same a b e =
-    rw e (simp (
-      eq-eqb b.sender.member b.sender.member refl,
-      eq-eqb b.sender.left b.sender.left refl,
-      eq-eqb b.receiver.member b.receiver.member refl,
-      eq-eqb b.receiver.left b.receiver.left refl,
-    ))
 
 module _ (ss rs : List ℕ) (a : Sized ss) (b : Sized rs) where
   -- from equal positions on

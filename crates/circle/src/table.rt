@@ -4,7 +4,7 @@ ghost use Rattle.circle.specs.Positions.{Sized, circle_of, position_of};
 ghost use Rattle.circle.specs.TurnTable.{FirstSteps, TurnTable, ends_of};
 
 use crate::stretches::{Place, member_after, stretch};
-use crate::walk::{Circle, Position, circle_of, is_same, next, start};
+use crate::walk::{Circle, Position, circle_of, is_same, next, resend_at, start};
 
 // A resend's two ends.
 #[derive(Clone, Copy)]
@@ -46,7 +46,8 @@ fn put_step(
     next(ss, rs, c, at)
 }
 
-// The table of one turn, and its steps. The walk is back within 127 of them, by `OneTurn`, and so there is room.
+// The table of one turn, and its steps; 0 where the walk is not back within 128. A turn has fewer, by `OneTurn`, but who reads the table
+// walks where it has no answer, and so nothing rests on that.
 // inner: for the shares of accepted clusters, and room for the table in which no stretch has begun.
 pub fn fill_turn(
     ss: &[u32],
@@ -62,13 +63,14 @@ pub fn fill_turn(
     let first = start(ss, rs, c, ss.len() - 1);
     let mut at = first;
     let mut j: u32 = 0;
-    loop {
+    while j < 128 {
         at = put_step(ss, rs, c, at, j, senders, receivers, begins);
         j += 1;
         if is_same(at, first) {
             return j;
         }
     }
+    0
 }
 
 // The step of resend n, where resend 1 is the step with which a stretch begins. Within the first turn nothing is divided.
@@ -83,7 +85,7 @@ fn step_of(begin: u32, n: u32, steps: u32) -> u32
     step % steps
 }
 
-// The ends of resend n, the original sender being member i, from the table.
+// The ends of resend n, the original sender being member i: from the table, or walked where the table does not have them.
 // inner: as for the table; n is one more than a count of at most 255.
 pub fn ends_in_turn(
     ss: &[u32],
@@ -100,9 +102,16 @@ pub fn ends_in_turn(
     ensures { result ≡ ends_of ss.now rs.now i n }
 {
     let begin = begins[member_after(ss.len(), i)];
-    let j = step_of(begin, n, steps) as usize;
+    if begin < steps {
+        let j = step_of(begin, n, steps) as usize;
+        return Ends {
+            sender: senders[j],
+            receiver: receivers[j],
+        };
+    }
+    let resend = resend_at(ss, rs, i, n);
     Ends {
-        sender: senders[j],
-        receiver: receivers[j],
+        sender: resend.sender,
+        receiver: resend.receiver,
     }
 }

@@ -3,7 +3,7 @@ use mathlib.Core.Path.{◌≡◌, refl, ap, sym, ◌∙◌}
 use mathlib.Core.Bool.{Bool, true, false, cond}
 use mathlib.Core.List.{List, ◌++◌}
 use Prim.Native.Nat.{ℕ, suc, ◌+◌, ◌*◌, ◌-◌, ◌/◌, ◌%◌, ◌≤◌, ◌<◌}
-use native.Mathlib.Nat.{mod-lt, mul-le-mul_left}
+use native.Mathlib.Nat.{mul-le-mul_left}
 use native.Mathlib.Omega.{arith}
 use lib.Dec.{ltb}
 use lib.ListN.{length, get_or, drop, set, get_or-append}
@@ -42,25 +42,24 @@ list_next f i n v l o a b c e g = list_turn f o e (omega arith) c g
 quota_le : (s : List ℕ) (q : ℕ) → Dealable s q → (i : ℕ) → i < length s → quota_of s q i ≤ 1024
 quota_le s q h i l = omega (arith, sum_part (quota_of s q) (length s) i l, quotas_le s q h, h.small_quantum)
 
--- what a division leaves may be taken from what was divided by
-pub left_upto : (r x d : ℕ) → 0 < d → r ≡ x % d → r ≤ d
-left_upto r x d some e = omega (arith, e, mod-lt x some)
-
 module _ (s : List ℕ) (q d i : ℕ) (h : Dealable s q) (e : d ≡ total_of s) where
-  pub key_told : (v : ℕ) → v ≡ (d - get_or s i 0 * q % d) * 64 + i → v ≡ key s q i
-  unfolding remainder_of
-  key_told v k = k ∙ rw e refl
-
-  module _ (w : ℕ) (g : w ≡ get_or s i 0 * q / d) where
-    pub quota_told : w ≡ quota_of s q i
+  module _ (x : ℕ) (f : x ≡ get_or s i 0 * q) where
+    pub quota_told : x / d ≡ quota_of s q i
     unfolding quota_of
-    quota_told = g ∙ rw e refl
+    quota_told = rw (f, e) refl
+
+    remainder_told : x % d ≡ remainder_of s q i
+    unfolding remainder_of
+    remainder_told = rw (f, e) refl
+
+    pub key_told : (v : ℕ) → v ≡ (d - x % d) * 64 + i → v ≡ key s q i
+    key_told v k = k ∙ rw (remainder_told, e) refl
 
     module _ (rest : ℕ) (l : i < length s) (u : rest + sum_below i (quota_of s q) ≡ q) where
-      pub undealt_fits : w ≤ rest
+      pub undealt_fits : x / d ≤ rest
       undealt_fits = omega (arith, quotas_le s q h, sum_grows (quota_of s q) (i + 1) (length s) (omega arith), sum_more (quota_of s q) i, quota_told)
 
-      pub undealt_turn : rest - w + sum_below (i + 1) (quota_of s q) ≡ q
+      pub undealt_turn : rest - x / d + sum_below (i + 1) (quota_of s q) ≡ q
       undealt_turn = omega (arith, undealt_fits, sum_more (quota_of s q) i, quota_told)
 
 pub undealt_start : (s : List ℕ) (q : ℕ) → q + sum_below 0 (quota_of s q) ≡ q

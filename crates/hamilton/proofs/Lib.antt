@@ -1,6 +1,5 @@
 -- The laws of Hamilton's counts, for this crate's proofs and those above it. Assumes nothing.
 pub mod RankLaws
-pub mod DivisionLaws
 pub mod QuotaLaws
 pub mod CountLaws
 pub mod JudgeLaws

@@ -2,7 +2,6 @@
 #![tactic(auto)]
 
 mod counting;
-mod division;
 mod quotas;
 mod ranks;
 

@@ -18,9 +18,9 @@ pub extern "C" fn havdorlek_open(
 ) -> u32
     ensures { (result ≡ (open_of ss.now su sr rs.now ru rr q).refusal) × (window.new ≡ words_of (open_of ss.now su sr rs.now ru rr q).window) }
 {
+    words::put_none(window);
     let refusal = deal::pair_refusal(ss, su, sr, rs, ru, rr, q);
     if refusal != 0 {
-        words::put_none(window);
         return refusal;
     }
     words::put_opened(ss, su, sr, rs, ru, rr, q, window);

@@ -1,6 +1,6 @@
 -- Shares weighed in one pass: bits that tell whether all are allowed, and a sum counted round. Assumes nothing.
-use mathlib.Core.Path.{◌≡◌, refl, sym, ◌∙◌}
-use mathlib.Core.Bool.{Bool, cond, ◌&&◌}
+use mathlib.Core.Path.{◌≡◌, refl, ap₂, sym, ◌∙◌}
+use mathlib.Core.Bool.{Bool, true, false, cond, ◌&&◌}
 use Prim.Native.Nat.{ℕ, ◌+◌, ◌-◌, ◌%◌, ◌^◌, ◌≤◌, ◌<◌}
 use native.Mathlib.Decide.{dec_lt, dec_le}
 use native.Mathlib.Omega.{arith}
@@ -47,6 +47,26 @@ bits_start p = refl
 
 pub bits_turn : (p : ℕ → Bool) (i a b : ℕ) → ltb a 2147483648 ≡ all_below i p → ltb b 2147483648 ≡ p i → ltb (bit_or a b) 2147483648 ≡ all_below (i + 1) p
 bits_turn p i a b e f = or_below 31 a b ∙ all_turn p {i = i} e f
+
+pub bits_four : (p : ℕ → Bool) (a b c d : ℕ) → ltb a 2147483648 ≡ p 0 → ltb b 2147483648 ≡ p 1 → ltb c 2147483648 ≡ p 2 → ltb d 2147483648 ≡ p 3
+    → ltb (bit_or (bit_or a b) (bit_or c d)) 2147483648 ≡ all_below 4 p
+unfolding all_below
+bits_four p a b c d e f g h =
+    or_below 31 (bit_or a b) (bit_or c d) ∙ ap₂ ◌&&◌ (or_below 31 a b ∙ ap₂ ◌&&◌ e f) (or_below 31 c d ∙ ap₂ ◌&&◌ g h) ∙ apart (p 0 && p 1) (p 2) (p 3)
+  where
+    apart : (x y z : Bool) → (x && (y && z)) ≡ ((x && y) && z)
+    apart true y z = refl
+    apart false y z = refl
+
+pub bits_of : (p : ℕ → Bool) (n m a : ℕ) → n ≡ m → ltb a 2147483648 ≡ all_below m p → ltb a 2147483648 ≡ all_below n p
+bits_of p n m a z e = rw z e
+
+pub total_of : (f : ℕ → ℕ) (n m t : ℕ) → n ≡ m → t ≡ sum_below m f % 4294967296 → t ≡ sum_below n f % 4294967296
+total_of f n m t z e = rw z e
+
+pub total_four : (f : ℕ → ℕ) (a b r : ℕ) → a ≡ (f 0 + f 1) % 4294967296 → b ≡ (f 2 + f 3) % 4294967296 → r ≡ (a + b) % 4294967296 → r ≡ sum_below 4 f % 4294967296
+unfolding sum_below
+total_four f a b r e g h = omega arith
 
 pub total_start : (f : ℕ → ℕ) → 0 ≡ sum_below 0 f % 4294967296
 unfolding sum_below

@@ -1,5 +1,6 @@
 // Shares weighed in one pass: whether all are allowed, and their total. What is asked of each is gathered, and no share is branched on.
-ghost use Rattle.std.specs.Prelude.{◌≡◌, cond, ◌+◌, ◌-◌, ◌%◌, leb, ltb, eqb};
+ghost use Rattle.std.specs.Prelude.{◌≡◌, cond, ◌+◌, ◌-◌, ◌%◌, ◌≤◌, leb, ltb, eqb, length, get_or};
+ghost use Rattle.basics.specs.Sums.{sum_below, all_below};
 ghost use Rattle.shares.specs.Shares.{total_of};
 ghost use Rattle.shares.specs.Cluster.{is_share, shares_fit};
 
@@ -40,24 +41,60 @@ fn rounded_sum(t: u32, x: u32) -> u32
     }
 }
 
-// What one pass tells of shares: bits of which the highest tells whether all are allowed, and their total where they are.
+// What one pass tells of the first shares, so many: bits of which the highest tells whether all are allowed, and their total where they are.
 #[derive(Clone, Copy)]
 pub(crate) struct Weighed {
+    pub(crate) members: usize,
     pub(crate) bits: u32,
     pub(crate) total: u32,
 }
 
-// One plain loop: whoever has seen that there are at most 64 shares has its turns laid out one after another by the compiler.
+// Four shares, of which none waits for another.
+fn weigh_four(shares: &[u32]) -> Weighed
+    requires { 4 ≤ length shares.now }
+    ensures { (result.members ≡ 4) × (ltb result.bits 2147483648 ≡ all_below 4 (λ i. is_share (get_or shares.now i 0))) × (result.total ≡ sum_below 4 (λ i. get_or shares.now i 0) % 4294967296) }
+{
+    let a = share_bits(shares[0]) | share_bits(shares[1]);
+    let b = share_bits(shares[2]) | share_bits(shares[3]);
+    let first = rounded_sum(shares[0], shares[1]);
+    let second = rounded_sum(shares[2], shares[3]);
+    let total = rounded_sum(first, second);
+    Weighed {
+        members: 4,
+        bits: a | b,
+        total,
+    }
+}
+
+// A loop takes eight at once, and what is left of eights one by one: of these four are taken beforehand.
+fn weigh_first(shares: &[u32]) -> Weighed
+    ensures { (result.members ≤ length shares.now) × (ltb result.bits 2147483648 ≡ all_below result.members (λ i. is_share (get_or shares.now i 0))) × (result.total ≡ sum_below result.members (λ i. get_or shares.now i 0) % 4294967296) }
+{
+    if 4 <= shares.len() % 8 {
+        return weigh_four(shares);
+    }
+    Weighed {
+        members: 0,
+        bits: 0,
+        total: 0,
+    }
+}
+
 pub(crate) fn weigh(shares: &[u32]) -> Weighed
     ensures { (ltb result.bits 2147483648 ≡ shares_fit shares.now) × (result.total ≡ total_of shares.now % 4294967296) }
 {
-    let mut bits: u32 = 0;
-    let mut total: u32 = 0;
-    let mut i = 0;
+    let first = weigh_first(shares);
+    let mut bits = first.bits;
+    let mut total = first.total;
+    let mut i = first.members;
     while i < shares.len() {
         bits = bits | share_bits(shares[i]);
         total = rounded_sum(total, shares[i]);
         i += 1;
     }
-    Weighed { bits, total }
+    Weighed {
+        members: i,
+        bits,
+        total,
+    }
 }

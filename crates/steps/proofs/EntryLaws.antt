@@ -17,7 +17,7 @@ use Rattle.judging.specs.Complaints.{entries_after, complained_entry, complaints
 use Rattle.judging.specs.Verdicts.{raised_entry}
 use Rattle.judging.proofs.PlaceLaws.{entries_place}
 use Rattle.words.specs.Taken.{word_at, entry_in, entries_in}
-use Rattle.steps.specs.Columns.{open_at, counts_after, heard_in, heard_after, changed_at, raised_counts, emptied_sets}
+use Rattle.steps.specs.Columns.{open_at, counts_after, heard_after, changed_at, raised_counts, emptied_sets}
 
 -- ---- two columns with the same words
 pub same_list : {A : Type 0} (f g : ℕ → A) (d : A) → ((j : ℕ) → j < 64 → f j ≡ g j) → list_below 64 f ≡ list_below 64 g
@@ -55,22 +55,10 @@ module _ (ws : List ℕ) (i c mask : ℕ) (again : Bool) (p n : ℕ) where
   heard_counts = same_list (λ j. cond (ltb (offset_at p j) n) (word_at ws (329 + j)) 0) (λ j. (get_or heard j no_entry).count) 0
       (λ j l. sym (ap (λ (e : Entry). e.count) (heard_place j l) ∙ count_of (ltb (offset_at p j) n) (complained_entry i c mask again p (offset_at p j) (entry_in ws j)) no_entry))
 
-  abbrev sets : List ℕ
-  sets = open_at ws 393 p n
-
-  sets_place : (j : ℕ) → j < 64 → get_or sets j 0 ≡ cond (ltb (offset_at p j) n) (word_at ws (393 + j)) 0
-  unfolding open_at
-  sets_place j l = list_at (λ x. cond (ltb (offset_at p x) n) (word_at ws (393 + x)) 0) 0 64 j l
-
-  open_twice : (o : Bool) (f : ℕ → ℕ) (w : ℕ) → cond o (f (cond o w 0)) (cond o w 0) ≡ cond o (f w) 0
-  open_twice true f w = refl
-  open_twice false f w = refl
-
   pub heard_sets : heard_after ws i c mask again p n ≡ complaints_of heard
-  unfolding heard_after heard_in complaints_of
-  heard_sets = same_list (λ j. cond (ltb (offset_at p j) n) (complaints_after i c mask again p (p + 1 + offset_at p j) (get_or sets j 0)) (get_or sets j 0)) (λ j. (get_or heard j no_entry).complaints) 0
-      (λ j l. rw (sets_place j l) (open_twice (ltb (offset_at p j) n) (complaints_after i c mask again p (p + 1 + offset_at p j)) (word_at ws (393 + j)))
-      ∙ sym (ap (λ (e : Entry). e.complaints) (heard_place j l) ∙ complaints_of_lem (ltb (offset_at p j) n) (complained_entry i c mask again p (offset_at p j) (entry_in ws j)) no_entry))
+  unfolding heard_after complaints_of
+  heard_sets = same_list (λ j. cond (ltb (offset_at p j) n) (complaints_after i c mask again p (p + 1 + offset_at p j) (word_at ws (393 + j))) 0) (λ j. (get_or heard j no_entry).complaints) 0
+      (λ j l. sym (ap (λ (e : Entry). e.complaints) (heard_place j l) ∙ complaints_of_lem (ltb (offset_at p j) n) (complained_entry i c mask again p (offset_at p j) (entry_in ws j)) no_entry))
 
 -- ---- the verdicts: of entries outside the n messages after p none is due, and they are empty
 module _ (due p n : ℕ) (l : List Entry) (past : (o : ℕ) → n ≤ o → is_marked due o ≡ false) (closed : (j : ℕ) → j < 64 → n ≤ offset_at p j → get_or l j no_entry ≡ no_entry) where

@@ -21,7 +21,8 @@ use Rattle.marks.proofs.FirstLaws.{among_at}
 use Rattle.marks.proofs.AfterLaws.{after_at}
 use Rattle.downstream.specs.State.{offset_at}
 use Rattle.judging.specs.Complaints.{complains, complaints_after}
-use Rattle.steps.specs.Columns.{heard_in, changed_at, told_set}
+use Rattle.words.specs.Taken.{word_at}
+use Rattle.steps.specs.Columns.{open_at, heard_after, changed_at, told_set}
 use Rattle.steps.proofs.EntryLaws.{same_list}
 
 -- a test that is made a number
@@ -76,7 +77,7 @@ module _ (c mask : ℕ) (again : Bool) (p o : ℕ) (l : o < 64) where
   bits_told set i = rw (after_at p c mask o l, missing_at) (elim (bool_cases (holds_of c mask k)) [ inl t ↦ simp t | inr t ↦ simp t ])
 
 -- ---- the whole column
-module _ (sets : List ℕ) (i c mask : ℕ) (again : Bool) (p n : ℕ) where
+module _ (ws : List ℕ) (i c mask : ℕ) (again : Bool) (p n : ℕ) where
   abbrev held : ℕ
   held = held_after p c mask
 
@@ -100,8 +101,8 @@ module _ (sets : List ℕ) (i c mask : ℕ) (again : Bool) (p n : ℕ) where
   lacks_at o l = among_at (bit_and lacked (18446744073709551615 - held)) 0 n o l ∙ simp (le-ltb o 0 (omega arith), marked_and lacked (18446744073709551615 - held) o, marked_not 64 held o held_lt l)
 
   one_place : (h m o : Bool) (w : ℕ)
-      → cond ((m && not h) && o && true) (mark_of (cond (h && o && true) (unmark_of w i) w) i) (cond (h && o && true) (unmark_of w i) w)
-      ≡ cond o (cond h (unmark_of w i) (cond m (mark_of w i) w)) w
+      → cond ((m && not h) && o && true) (mark_of (cond (h && o && true) (unmark_of (cond o w 0) i) (cond o w 0)) i) (cond (h && o && true) (unmark_of (cond o w 0) i) (cond o w 0))
+      ≡ cond o (cond h (unmark_of w i) (cond m (mark_of w i) w)) 0
   one_place true true true w = refl
   one_place true true false w = refl
   one_place true false true w = refl
@@ -111,20 +112,28 @@ module _ (sets : List ℕ) (i c mask : ℕ) (again : Bool) (p n : ℕ) where
   one_place false false true w = refl
   one_place false false false w = refl
 
+  open_place : (j : ℕ) → j < 64 → get_or (open_at ws 393 p n) j 0 ≡ cond (ltb (offset_at p j) n) (word_at ws (393 + j)) 0
+  unfolding open_at
+  open_place j m = list_at (λ x. cond (ltb (offset_at p x) n) (word_at ws (393 + x)) 0) 0 64 j m
+
+  changed_place : (f : ℕ → ℕ) (messages : ℕ) (l : List ℕ) (j : ℕ) → j < 64 → get_or (changed_at f messages p l) j 0 ≡ cond (is_marked messages (offset_at p j)) (f (get_or l j 0)) (get_or l j 0)
+  unfolding changed_at
+  changed_place f messages l j m = list_at (λ x. cond (is_marked messages (offset_at p x)) (f (get_or l x 0)) (get_or l x 0)) 0 64 j m
+
   abbrev out : List ℕ
-  out = changed_at (told_set false i) gains p sets
+  out = changed_at (told_set false i) gains p (open_at ws 393 p n)
 
-  out_place : (j : ℕ) → j < 64 → get_or out j 0 ≡ cond (is_marked held (offset_at p j) && ltb (offset_at p j) n && true) (unmark_of (get_or sets j 0) i) (get_or sets j 0)
-  unfolding changed_at told_set
-  out_place j m = list_at (λ x. cond (is_marked gains (offset_at p x)) (unmark_of (get_or sets x 0) i) (get_or sets x 0)) 0 64 j m ∙ rw (gains_at (offset_at p j) (omega arith)) refl
+  out_place : (j : ℕ) → j < 64 → get_or out j 0 ≡ cond (is_marked held (offset_at p j) && ltb (offset_at p j) n && true) (unmark_of (cond (ltb (offset_at p j) n) (word_at ws (393 + j)) 0) i) (cond (ltb (offset_at p j) n) (word_at ws (393 + j)) 0)
+  unfolding told_set
+  out_place j m = changed_place (told_set false i) gains (open_at ws 393 p n) j m ∙ rw (gains_at (offset_at p j) (omega arith), open_place j m) refl
 
-  both : changed_at (told_set true i) lacks p out ≡ heard_in sets i c mask again p n
-  unfolding changed_at heard_in told_set
-  both = same_list (λ j. cond (is_marked lacks (offset_at p j)) (mark_of (get_or out j 0) i) (get_or out j 0)) (λ j. cond (ltb (offset_at p j) n) (complaints_after i c mask again p (p + 1 + offset_at p j) (get_or sets j 0)) (get_or sets j 0)) 0
-      (λ j m. rw (out_place j m, lacks_at (offset_at p j) (omega arith)) (one_place (is_marked held (offset_at p j)) (is_marked lacked (offset_at p j)) (ltb (offset_at p j) n) (get_or sets j 0))
-      ∙ ap (λ (x : ℕ). cond (ltb (offset_at p j) n) x (get_or sets j 0)) (bits_told c mask again p (offset_at p j) (omega arith) (get_or sets j 0) i))
+  both : changed_at (told_set true i) lacks p out ≡ heard_after ws i c mask again p n
+  unfolding changed_at heard_after told_set
+  both = same_list (λ j. cond (is_marked lacks (offset_at p j)) (mark_of (get_or out j 0) i) (get_or out j 0)) (λ j. cond (ltb (offset_at p j) n) (complaints_after i c mask again p (p + 1 + offset_at p j) (word_at ws (393 + j))) 0) 0
+      (λ j m. rw (out_place j m, lacks_at (offset_at p j) (omega arith)) (one_place (is_marked held (offset_at p j)) (is_marked lacked (offset_at p j)) (ltb (offset_at p j) n) (word_at ws (393 + j)))
+      ∙ ap (λ (x : ℕ). cond (ltb (offset_at p j) n) x 0) (bits_told c mask again p (offset_at p j) (omega arith) (word_at ws (393 + j)) i))
 
-pub heard_told : (sets : List ℕ) (i c mask : ℕ) (again : Bool) (p n highest held missing gains lacks : ℕ) (one two : List ℕ) → highest ≡ highest_of c mask → held ≡ held_after p c mask
+pub heard_told : (ws : List ℕ) (i c mask : ℕ) (again : Bool) (p n highest held missing gains lacks : ℕ) (sets one two : List ℕ) → highest ≡ highest_of c mask → held ≡ held_after p c mask
     → missing ≡ bit_or (held_after p (highest - 1) 0) (cond (again && eqb c p) 1 0) → gains ≡ among_of held 0 n → lacks ≡ among_of (bit_and missing (18446744073709551615 - held)) 0 n
-    → one ≡ changed_at (told_set false i) gains p sets → two ≡ changed_at (told_set true i) lacks p one → two ≡ heard_in sets i c mask again p n
-heard_told sets i c mask again p n highest held missing gains lacks one two eh ed em eg el e f = f ∙ rw (e, el, eg, em, ed, eh) (both sets i c mask again p n)
+    → sets ≡ open_at ws 393 p n → one ≡ changed_at (told_set false i) gains p sets → two ≡ changed_at (told_set true i) lacks p one → two ≡ heard_after ws i c mask again p n
+heard_told ws i c mask again p n highest held missing gains lacks sets one two eh ed em eg el es e f = f ∙ rw (e, es, el, eg, em, ed, eh) (both ws i c mask again p n)

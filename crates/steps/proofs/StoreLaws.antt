@@ -90,8 +90,8 @@ module _ (p n m h e : List ℕ) (i x y z : ℕ) (lp : length p ≡ 137) (ln : le
       set-append_left (p ++ (a ++ m ++ h)) e (201 + i) y (omega (arith, within a m h la lm lh))
       ∙ ap (λ (r : List ℕ). r ++ e) (ap (λ (k : ℕ). set (p ++ (a ++ m ++ h)) k y) at ∙ set_right p (a ++ m ++ h) 137 (64 + i) y lp ∙ ap (λ (r : List ℕ). p ++ r) two)
 
-  heard_in_lem : (a b : List ℕ) → length a ≡ 64 → length b ≡ 64 → set (whole a b h) (265 + i) z ≡ whole a b (set h i z)
-  heard_in_lem a b la lb =
+  heard_in : (a b : List ℕ) → length a ≡ 64 → length b ≡ 64 → set (whole a b h) (265 + i) z ≡ whole a b (set h i z)
+  heard_in a b la lb =
       let two : set (a ++ b ++ h) (128 + i) z ≡ (a ++ b) ++ set h i z = set_right (a ++ b) h 128 i z (simp (length-append, la, lb)) in
       let at : 265 + i ≡ 137 + (128 + i) = omega arith in
       set-append_left (p ++ (a ++ b ++ h)) e (265 + i) z (omega (arith, within a b h la lb lh))
@@ -103,7 +103,7 @@ module _ (p n m h e : List ℕ) (i x y z : ℕ) (lp : length p ≡ 137) (ln : le
       let lm' : length (set m i y) ≡ 64 = length-set m i y ∙ lm in
       ap (λ (r : List ℕ). set (set r (201 + i) y) (265 + i) z) number_in
       ∙ ap (λ (r : List ℕ). set r (265 + i) z) (mask_in (set n i x) ln')
-      ∙ heard_in_lem (set n i x) (set m i y) ln' lm'
+      ∙ heard_in (set n i x) (set m i y) ln' lm'
 
 -- ---- the report in the words of a state
 abbrev pub front : Window → List ℕ

@@ -15,14 +15,10 @@ open_at ws at p n = list_below 64 (λ j. cond (ltb (offset_at p j) n) (word_at w
 abbrev pub counts_after : List ℕ → ℕ → ℕ → List ℕ
 counts_after ws p n = open_at ws counts_at p n
 
--- a column of complaint sets with the report of member i heard on the n messages after p; every other set stays
-unfoldable pub heard_in : List ℕ → ℕ → ℕ → ℕ → Bool → ℕ → ℕ → List ℕ
-heard_in sets i c mask again p n =
-    list_below 64 (λ j. cond (ltb (offset_at p j) n) (complaints_after i c mask again p (p + 1 + offset_at p j) (get_or sets j 0)) (get_or sets j 0))
-
 -- the complaint sets of the n messages after p with the report of member i heard; every other set is empty
 unfoldable pub heard_after : List ℕ → ℕ → ℕ → ℕ → Bool → ℕ → ℕ → List ℕ
-heard_after ws i c mask again p n = heard_in (open_at ws complaints_at p n) i c mask again p n
+heard_after ws i c mask again p n =
+    list_below 64 (λ j. cond (ltb (offset_at p j) n) (complaints_after i c mask again p (p + 1 + offset_at p j) (word_at ws (complaints_at + j))) 0)
 
 -- no count is above 255
 abbrev pub Small : List ℕ → Type 0

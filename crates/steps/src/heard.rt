@@ -1,11 +1,14 @@
 // The complaint sets of the entries as a report changes them. What it holds and what it may complain of are two words over the messages
 // after p, made once.
-ghost use Rattle.std.specs.Prelude.{◌≡◌, cond, ◌&&◌, ◌-◌, ◌≤◌, eqb};
+ghost use Rattle.std.specs.Prelude.{◌≡◌, true, cond, ◌&&◌, ◌-◌, ◌≤◌, eqb};
 ghost use Rattle.std.specs.Int.Bits.{bit_or};
 ghost use Rattle.marks.specs.Held.{highest_of, held_after};
-ghost use Rattle.steps.specs.Columns.{heard_in};
+ghost use Rattle.words.specs.Entries.{closed_zero};
+ghost use Rattle.words.specs.Taken.{word_at};
+ghost use Rattle.steps.specs.Columns.{heard_after};
 
 use crate::changing::tell;
+use crate::columns::open_at;
 use judging::Hearing;
 
 // The messages that the report complains of unless it holds them, a bit for each after p: those below the highest that it holds, and the
@@ -17,15 +20,17 @@ fn missing_after(h: Hearing, p: u64) -> u64
     below | (h.again & (h.number == p)) as u64
 }
 
-// Hears the report in the complaint sets of the n messages after p; every other set stays.
-pub(crate) fn heard_after(sets: &mut [u64; 64], h: Hearing, p: u64, n: u64)
-    requires { (h.highest ≡ highest_of h.number h.mask) × (p ≤ 1000000000000) }
-    ensures { sets.new ≡ heard_in sets.old h.member h.number h.mask h.again p n }
+// The complaint sets of the n messages after p with the report heard; every other set is empty.
+pub(crate) fn heard_after(words: &[u64; 457], h: Hearing, p: u64, n: u64) -> [u64; 64]
+    requires { (h.highest ≡ highest_of h.number h.mask) × (p ≤ 1000000000000) × (p ≡ word_at words.now 136 → closed_zero words.now 393 p n ≡ true) }
+    ensures { result ≡ heard_after words.now h.member h.number h.mask h.again p n }
 {
     let held = marks::held_after(p, h.number, h.mask);
     let missing = missing_after(h, p);
     let holds = marks::among(held, 0, n);
     let lacks = marks::among(missing & !held, 0, n);
-    tell(sets, holds, p, h.member, false);
-    tell(sets, lacks, p, h.member, true);
+    let mut sets = open_at(words, 393, p, n);
+    tell(&mut sets, holds, p, h.member, false);
+    tell(&mut sets, lacks, p, h.member, true);
+    sets
 }

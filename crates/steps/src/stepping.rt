@@ -16,22 +16,24 @@ use crate::hearing::{hearing_of, is_quiet, point_after};
 use crate::putting::{put_report, put_step};
 use judging::Hearing;
 
-// The verdicts on the messages that are due: each is written, its count raised and its set emptied in the lent columns.
+// The verdicts on the messages that are due: each is written, its count raised and its set emptied.
 fn put_lost(
     words: &mut [u64; 457],
     h: Hearing,
     p: u64,
     due: u64,
-    counts: &mut [u64; 64],
-    sets: &mut [u64; 64],
+    counts: &[u64; 64],
+    sets: &[u64; 64],
     out: &mut [u8],
 ) -> u32
-    requires { (Stepping words.old h p) × (due ≡ due_of (taken_in words.old h) (window_in words.old).sent) × (counts.old ≡ counts_after words.old p (word_at words.old 135 - p)) × (sets.old ≡ heard_after words.old h.member h.number h.mask h.again p (word_at words.old 135 - p)) × (1024 ≤ length out.old) }
+    requires { (Stepping words.old h p) × (due ≡ due_of (taken_in words.old h) (window_in words.old).sent) × (counts.now ≡ counts_after words.old p (word_at words.old 135 - p)) × (sets.now ≡ heard_after words.old h.member h.number h.mask h.again p (word_at words.old 135 - p)) × (1024 ≤ length out.old) }
     ensures { (result ≡ (step_in words.old h).verdicts) × (words.new ≡ words_of (with_downstream (window_in words.old) (step_in words.old h).downstream)) × (out.new ≡ step_out (window_in words.old).sending (window_in words.old).quantum (window_in words.old).downstream (window_in words.old).sent h.member h.number h.mask out.old) }
 {
     let verdicts = put_verdicts(words, due, counts, p, out);
-    raise(counts, sets, due, p);
-    put_step(h.member, h.number, h.mask, p, counts, sets, words);
+    let mut raised = *counts;
+    let mut emptied = *sets;
+    raise(&mut raised, &mut emptied, due, p);
+    put_step(h.member, h.number, h.mask, p, &raised, &emptied, words);
     verdicts
 }
 
@@ -41,15 +43,14 @@ fn judge_open(words: &mut [u64; 457], h: Hearing, p: u64, out: &mut [u8]) -> u32
     ensures { (result ≡ (step_in words.old h).verdicts) × (words.new ≡ words_of (with_downstream (window_in words.old) (step_in words.old h).downstream)) × (out.new ≡ step_out (window_in words.old).sending (window_in words.old).quantum (window_in words.old).downstream (window_in words.old).sent h.member h.number h.mask out.old) }
 {
     let n = words[135] - p;
-    let mut counts = open_at(words, 329, p, n);
-    let mut sets = open_at(words, 393, p, n);
-    heard_after(&mut sets, h, p, n);
+    let counts = open_at(words, 329, p, n);
+    let sets = heard_after(words, h, p, n);
     let due = due_after(words, h, &counts, &sets, p);
     if due == 0 {
         put_step(h.member, h.number, h.mask, p, &counts, &sets, words);
         return 0;
     }
-    put_lost(words, h, p, due, &mut counts, &mut sets, out)
+    put_lost(words, h, p, due, &counts, &sets, out)
 }
 
 // An accepted report taken in the words that hold the state: its verdicts into the output, and how many there are.

@@ -1,12 +1,12 @@
 -- Parts that are put one behind the other fill what was lent. Assumes nothing.
-use mathlib.Core.Path.{◌≡◌, refl, ap, sym, ◌∙◌}
+use mathlib.Core.Path.{◌≡◌, refl, ap, ap₂, sym, ◌∙◌}
 use mathlib.Core.List.{List, [], ◌∷◌, ◌++◌, append-nil, append_assoc}
 use Prim.Native.Nat.{ℕ, zero, suc, ◌+◌, ◌-◌, ◌≤◌, ◌<◌}
-use native.Mathlib.Nat.{zero-add}
+use native.Mathlib.Nat.{zero-add, add-zero, add-suc}
 use native.Mathlib.Omega.{arith}
 use lib.ListN.{length, take, drop, take-append-drop, set, get_or, replicate, drop_of_length-le, length-append, get_or-eq_default}
 use lib.Seq.{sets, sets-eq, drop_at, length-take-le}
-use borrow.Rule.Slice.PartMut.{put_mid}
+use borrow.Rule.Slice.PartMut.{mid_of, put_mid}
 use Rattle.basics.proofs.PartLaws.{put_next}
 use Rattle.basics.specs.Sums.{list_below}
 use Rattle.basics.proofs.SumLaws.{length_list, list_at, list_is, list_turn}
@@ -34,6 +34,13 @@ more p ys s xs a k e f g = ap (λ (l : List ℕ). put_mid a k l ys) e ∙ put_ne
 -- nothing is left of what was lent
 full : (p s : List ℕ) (n : ℕ) → length s ≡ n → p ++ drop n s ≡ p
 full p s n e = ap (λ (t : List ℕ). p ++ t) (drop_of_length-le s {i = n} (omega (arith, e))) ∙ append-nil p
+
+-- what stands behind a part that is put first stays
+behind : (s y : List ℕ) (a k : ℕ) → length y ≡ a → mid_of a k (put_mid 0 a s y) ≡ mid_of a k s
+behind s y a k e =
+    ap (λ (l : List ℕ). mid_of a k l) (put_next [] y s 0 a refl e)
+    ∙ ap (λ (n : ℕ). mid_of a k (y ++ drop n s)) (zero-add a)
+    ∙ ap (take k) (drop_at y (drop a s) a e)
 
 -- as many words as there are places, stored one behind the other
 sets_all : (vs s : List ℕ) → length s ≡ length vs → sets s 0 vs ≡ vs
@@ -96,19 +103,28 @@ zeros_done i n l o e m a b =
     let z : i ≡ n = omega arith in
     e ∙ full (list_below i (λ _. 0)) o i (m ∙ sym z) ∙ ap (λ (j : ℕ). list_below j (λ _. 0)) z
 
-length_zeros : (n : ℕ) → length (zeros n) ≡ n
+-- what is zero from a place on ends in zeros
+ends_in_zeros : (f : ℕ → ℕ) (i d : ℕ) → ((j : ℕ) → i ≤ j → f j ≡ 0) → list_below (i + d) f ≡ list_below i f ++ zeros d
+unfolding zeros list_below
+ends_in_zeros f i zero h = ap (λ (n : ℕ). list_below n f) (add-zero i) ∙ sym (append-nil (list_below i f))
+ends_in_zeros f i (suc d) h =
+    ap (λ (n : ℕ). list_below n f) (add-suc i d)
+    ∙ ap₂ (λ (l : List ℕ) (x : ℕ). l ++ (x ∷ [])) (ends_in_zeros f i d h) (h (i + d) (omega arith))
+    ∙ append_assoc (list_below i f) (zeros d) (0 ∷ [])
+
+-- what is put before zeros, and is itself zero where they stand
+pub before_zeros : (f : ℕ → ℕ) (i : ℕ) (l o : List ℕ) → l ≡ list_below i f ++ drop i o → o ≡ zeros 64 → i ≤ 64 → ((j : ℕ) → i ≤ j → f j ≡ 0) → l ≡ list_below 64 f
 unfolding zeros
-length_zeros n = length_list (λ _. 0) n
+before_zeros f i l o e z b h =
+    let all : i + (64 - i) ≡ 64 = omega arith in
+    let rest : drop i o ≡ zeros (64 - i) =
+    ap (drop i) (z ∙ ap zeros (sym all) ∙ ends_in_zeros (λ _. 0) i (64 - i) (λ j k. refl)) ∙ drop_at (zeros i) (zeros (64 - i)) i (length_list (λ _. 0) i) in
+    e ∙ ap (λ (t : List ℕ). list_below i f ++ t) rest ∙ sym (ends_in_zeros f i (64 - i) h) ∙ ap (λ (n : ℕ). list_below n f) all
 
--- what is filled so far, seen from itself
-pub past_start : (f : ℕ → ℕ) (i : ℕ) (l o : List ℕ) → l ≡ list_below i f ++ drop i o → l ≡ list_below i f ++ drop i l
-past_start f i l o e = e ∙ ap (λ (t : List ℕ). list_below i f ++ t) (sym (ap (drop i) e ∙ drop_at (list_below i f) (drop i o) i (length_list f i)))
+pub none_past : (l : List ℕ) (i : ℕ) → length l ≤ i → (j : ℕ) → i ≤ j → get_or l j 0 ≡ 0
+none_past l i a j b = get_or-eq_default l 0 (omega arith)
 
--- past the lent shares there is none
-pub none_past : (shares : List ℕ) (i : ℕ) → length shares ≤ i → 0 ≡ get_or shares i 0
-none_past shares i h = sym (get_or-eq_default shares 0 h)
-
-none_there : zeros 320 ≡ report_words (replicate 64 no_report) ++ entry_words (replicate 64 no_entry)
+none_there : drop 137 (zeros 457) ≡ report_words (replicate 64 no_report) ++ entry_words (replicate 64 no_entry)
 unfolding zeros report_words entry_words numbers_of masks_of heard_of counts_of complaints_of list_below
 none_there = refl
 
@@ -116,22 +132,35 @@ pub none_put : (l : List ℕ) → l ≡ zeros 457 → l ≡ words_of no_window
 unfolding zeros words_of cluster_words shares_words report_words entry_words numbers_of masks_of heard_of counts_of complaints_of list_below
 none_put l e = e
 
--- ---- the state of a window that is just opened
-pub opened_put : (sending receiving : Cluster) (q : ℕ) (s a b c d : List ℕ) → length s ≡ 457 → a ≡ cluster_words sending → b ≡ cluster_words receiving → c ≡ q ∷ 0 ∷ 0 ∷ [] → d ≡ zeros 320
-    → put_mid 137 320 (put_mid 134 3 (put_mid 67 67 (put_mid 0 67 s a) b) c) d ≡ words_of (window_from sending receiving q)
+-- ---- parts of zeros
+none_zeros : (l : List ℕ) → l ≡ words_of no_window → l ≡ zeros 457
+unfolding zeros words_of cluster_words shares_words report_words entry_words numbers_of masks_of heard_of counts_of complaints_of list_below
+none_zeros l e = e
+
+pub zeros_first : (l : List ℕ) → l ≡ words_of no_window → mid_of 0 67 l ≡ zeros 67
+unfolding zeros list_below
+zeros_first l e = rw (none_zeros l e) refl
+
+pub zeros_second : (c : Cluster) (l y : List ℕ) → l ≡ words_of no_window → y ≡ cluster_words c → mid_of 67 67 (put_mid 0 67 l y) ≡ zeros 67
+unfolding zeros list_below
+zeros_second c l y e f = behind l y 67 67 (ap length f ∙ length_cluster c) ∙ rw (none_zeros l e) refl
+
+pub zeros_shares : (l : List ℕ) → l ≡ zeros 67 → mid_of 3 64 l ≡ zeros 64
+unfolding zeros list_below
+zeros_shares l e = rw e refl
+
+pub opened_put : (sending receiving : Cluster) (q : ℕ) (s a b c : List ℕ) → s ≡ words_of no_window → a ≡ cluster_words sending → b ≡ cluster_words receiving → c ≡ q ∷ 0 ∷ 0 ∷ []
+    → put_mid 134 3 (put_mid 67 67 (put_mid 0 67 s a) b) c ≡ words_of (window_from sending receiving q)
 unfolding words_of
-opened_put sending receiving q s a b c d l ea eb ec ed =
+opened_put sending receiving q s a b c e ea eb ec =
     let la : length a ≡ 67 = ap length ea ∙ length_cluster sending in
     let lb : length b ≡ 67 = ap length eb ∙ length_cluster receiving in
     let lc : length c ≡ 3 = ap length ec in
-    let ld : length d ≡ 320 = ap length ed ∙ length_zeros 320 in
     let lab : length (a ++ b) ≡ 134 = length-append a b ∙ omega (arith, la, lb) in
-    let labc : length (a ++ b ++ c) ≡ 137 = length-append (a ++ b) c ∙ omega (arith, lab, lc) in
     let one : put_mid 0 67 s a ≡ a ++ drop 67 s = put_next [] a s 0 67 refl la in
     let two : put_mid 67 67 (put_mid 0 67 s a) b ≡ (a ++ b) ++ drop 134 s = more a b s (put_mid 0 67 s a) 67 67 one la lb in
-    let three : put_mid 134 3 (put_mid 67 67 (put_mid 0 67 s a) b) c ≡ (a ++ b ++ c) ++ drop 137 s = more (a ++ b) c s (put_mid 67 67 (put_mid 0 67 s a) b) 134 3 two lab lc in
-    more (a ++ b ++ c) d s (put_mid 134 3 (put_mid 67 67 (put_mid 0 67 s a) b) c) 137 320 three labc ld
-    ∙ full (a ++ b ++ c ++ d) s 457 l
-    ∙ ap (λ (t : List ℕ). a ++ b ++ c ++ t) (ed ∙ none_there)
+    more (a ++ b) c s (put_mid 67 67 (put_mid 0 67 s a) b) 134 3 two lab lc
+    ∙ ap (λ (t : List ℕ). a ++ b ++ c ++ drop 137 t) (none_zeros s e)
+    ∙ ap (λ (t : List ℕ). a ++ b ++ c ++ t) none_there
     ∙ sym (append_assoc (a ++ b ++ c) (report_words (replicate 64 no_report)) (entry_words (replicate 64 no_entry)))
     ∙ rw (ea, eb, ec) refl

@@ -7,8 +7,8 @@ use Rattle.hamilton.proofs.quotas.fill_quotas.Goals as goal
 pub loop-i-init : goal.loop-i-init
 loop-i-init c = (search rules, search undealt_start, search rules, search list_start, search rules, search list_start)
 
-pub standing_of-standing-requires : goal.standing_of-standing-requires
-standing_of-standing-requires c = (search share_small, search rules, search rules, search rules, search rules, search rules)
+pub times-product-requires : goal.times-product-requires
+times-product-requires c = (search share_small, search rules)
 
 pub overflow_sub-rest : goal.overflow_sub-rest
 overflow_sub-rest c = search undealt_fits

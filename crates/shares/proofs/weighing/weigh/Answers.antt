@@ -1,11 +1,8 @@
 use Rattle.shares.specs.Shares.{total_of}
 use Rattle.shares.specs.Cluster.{shares_fit}
-use Rattle.shares.proofs.WeighLaws.{bits_start, bits_turn, bits_done, total_start, total_turn, total_done}
+use Rattle.shares.proofs.WeighLaws.{bits_turn, bits_done, total_turn, total_done}
 use borrow.Author.Rules.{rules}
 use Rattle.shares.proofs.weighing.weigh.Goals as goal
-
-pub loop-i-init : goal.loop-i-init
-loop-i-init c = (search rules, search bits_start, search total_start)
 
 pub loop-i-preserved : goal.loop-i-preserved
 loop-i-preserved c = (search rules, search (bits_turn, rules), search (total_turn, rules))
