@@ -1,13 +1,15 @@
 // The lines of the input.
-ghost use Rattle.std.specs.Prelude.{◌-◌, ◌≤◌, length, IfOk};
+ghost use Rattle.std.specs.Prelude.{◌≡◌, ◌-◌, ◌≤◌, length, IfOk};
 ghost use Rattle.script.specs.Counts.{IsPrefixLen};
 
 use std::io;
 use std::io::Read;
 
-// Reads until the space is full or the input ends, and answers how many bytes it put at the start of the space.
+// Reads until the space is full or the input ends, and answers how many bytes it put at the start of the space. Where a read fails, what was
+// read before it stands there.
 pub fn read_full(from: &mut impl Read, space: &mut [u8]) -> io::Result<usize>
-    ensures { IfOk result (λ n. IsPrefixLen n space.new) }
+    ensures count { IfOk result (λ n. IsPrefixLen n space.new) }
+    ensures same_length { length space.new ≡ length space.old }
 {
     let mut done = 0;
     while done < space.len() {
