@@ -1,7 +1,7 @@
 #!/usr/bin/env python3
 """Brings the names of this repository's own definitions and lemmas to today's spelling: words in snake case, types in camel case.
 
-usage: python3 tools/respell.py      at the top of a checkout in which /opt/rattle/port/port.py has run, once
+usage: python3 tools/respell.py      at the top of a checkout in which the kit's port.py has run, once
 
 port.py respells only the names that a library had in the same spelling. This script turns the rest: each name that specs/ or proofs/ declare, in
 specs/, proofs/, the clauses of src/ and the texts of must-fail edits. Functions of src/, exported names, strings, inputs and outputs keep theirs,

@@ -60,6 +60,7 @@ pub(crate) fn member_after(n: usize, i: usize) -> usize
 
 // A place moved on by a run of at most what is left of its stretch: within the stretch, or from its end to the whole of the next.
 // inner: as for the end of a stretch.
+#[tactic(auto, using(crate::proofs::PlaceLaws::moved_within, crate::proofs::PlaceLaws::moved_past))]
 pub fn moved(shares: &[u32], factor: u64, at: Place, run: u64) -> Place
     requires { (length shares.now ≤ 64) × (factor ≤ 64000000) × (at.member < length shares.now) }
     ensures { result ≡ moved_of shares.now factor at run }

@@ -24,7 +24,7 @@ shares_of c = take c.members c.shares
 abbrev pub place_after : ℕ → ℕ → ℕ
 place_after p o = (p + o) % 64
 
--- and the message that has place j, of the 64 from p + 1 on, is p + 1 + offsetAt p j
+-- and the message that has place j, of the 64 from p + 1 on, is p + 1 + offset_at p j
 abbrev pub offset_at : ℕ → ℕ → ℕ
 offset_at p j = (j + 64 - p % 64) % 64
 

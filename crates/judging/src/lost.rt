@@ -8,6 +8,7 @@ ghost use Rattle.judging.specs.Verdicts.{is_lost};
 use downstream::{changes, steady_until};
 
 // The set with those of another between two offsets, where this share is at most u.
+#[tactic(auto, using(crate::proofs::LostLaws::lost_in))]
 fn with_lost(set: u64, enough: u64, from: u64, to: u64, share: u64, u: u32) -> u64
     ensures { result ≡ cond (leb share u) (bit_or set (among_of enough from to)) set }
 {

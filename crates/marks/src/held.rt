@@ -5,6 +5,7 @@ ghost use Rattle.marks.specs.Held.{holds_of, highest_of, none_above, held_after}
 use crate::masks::{first, is_marked, past, reach};
 
 // Whether message k is held: at most c, or marked.
+#[tactic(auto, using(crate::proofs::HeldLaws::holds_at_most, crate::proofs::HeldLaws::holds_marked))]
 pub fn holds(c: u64, mask: u64, k: u64) -> bool
     ensures { result ≡ holds_of c mask k }
 {

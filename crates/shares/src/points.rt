@@ -44,6 +44,7 @@ fn reached(shares: &[u32], values: &[u64], g: u64) -> u64
 }
 
 // The better of the best point so far and a value v.
+#[tactic(auto, using(crate::proofs::PointLaws::not_better, crate::proofs::PointLaws::better_reached, crate::proofs::PointLaws::better_not_reached))]
 fn better(shares: &[u32], values: &[u64], t: u64, v: u64, best: u64) -> u64
     requires { length shares.now ≤ 64 }
     ensures { result ≡ cond (ltb best v && leb t (reached_of shares.now values.now v)) v best }

@@ -39,6 +39,7 @@ fn send_refusal(w: Window, k: u64) -> u32
 
 impl Window {
     // Sends message k: the number of the refusal, 0 for none, and the next state.
+    #[tactic(auto, using(crate::proofs::SendLaws::sent_on, crate::proofs::SendLaws::sent_not))]
     pub fn send(mut self, k: u64) -> SendAnswer
         ensures { result ≡ send_of self k }
     {

@@ -8,7 +8,7 @@ pub returns-then-refusal-ne0 : goal.returns-then-refusal-ne0
 returns-then-refusal-ne0 c = (search refused_number, search refused_words)
 
 pub put_opened-requires : goal.put_opened-requires
-put_opened-requires c = (search open_sending, search open_receiving, search rules)
+put_opened-requires c = (search (open_sending, open_receiving), search (open_sending, open_receiving), search rules)
 
 pub returns : goal.returns
 returns c = (search opened_number, search opened_words)

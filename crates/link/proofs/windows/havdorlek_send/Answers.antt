@@ -7,7 +7,7 @@ pub returns-then-not-formed : goal.returns-then-not-formed
 returns-then-not-formed c = (search (send_ill, not-true), search (send_ill_words, not-true))
 
 pub next_refusal-refusal-requires : goal.next_refusal-refusal-requires
-next_refusal-refusal-requires c = (search (sent_in_range, not-false), search (point_in_range, not-false))
+next_refusal-refusal-requires c = (search (sent_in_range, point_in_range, not-false), search (sent_in_range, point_in_range, not-false))
 
 pub returns-then-refusal-ne0 : goal.returns-then-refusal-ne0
 returns-then-refusal-ne0 c = (search (send_is, not-false), search (send_refused_words, not-false))
