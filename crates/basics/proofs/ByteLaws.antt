@@ -4,11 +4,14 @@ use mathlib.Core.Bool.{Bool, true, false, ◌&&◌}
 use mathlib.Core.List.{List, [], ◌∷◌, ◌++◌, append-nil}
 use Prim.Native.Nat.{ℕ, zero, suc, ◌+◌, ◌*◌, ◌^◌, ◌/◌, ◌%◌, ◌-◌, ◌<◌, ◌≤◌, zero-le}
 use native.Mathlib.Numerals.{add-one}
-use native.Mathlib.Nat.{pow-suc, le_refl, div-div-eq-div-mul, div-one, mul_comm}
+use native.Mathlib.Nat.{pow-suc, div-div-eq-div-mul, div-one, mul_comm}
 use native.Mathlib.Omega.{arith}
 use lib.Bits.{bit_or}
 use lib.Dec.{lit<, eqb, ltb, eqb-suc-zero}
 use lib.ListN.{length, get_or, take, drop, set, replicate, drop_of_length-le, length-drop, length-take, get_or-eq_default}
+use Rattle.std.specs.Prelude.{reverse}
+use Rattle.std.proofs.lemmas.List.{length-reverse, get_or-reverse}
+use Rattle.std.proofs.lemmas.Grind.{get_or_default_zero}
 use lib.Seq.{drop-cons, get_or-drop, get_or-take, set_at, append_snoc}
 use borrow.Author.Tests.{eqb-true, ltb-true, ltb-false}
 use borrow.Rule.Slice.PartMut.{mid_len}
@@ -46,28 +49,36 @@ le_lt zero (x ∷ s) h b = omega arith
 le_lt (suc n) [] h b = omega (arith, pow-suc 256 n, le_lt n [] zero-le b)
 le_lt (suc n) (x ∷ s) h b = omega (arith, pow-suc 256 n, b 0, le_lt n s (omega arith) (λ k. b (suc k)))
 
-pub number_start : (s : List ℕ) → 0 ≡ le_of (drop (length s) s)
-number_start s = sym (le_end s (length s) (le_refl (length s)))
+-- read from the highest byte down, n of them so far: the number of the last n bytes, for which 64 bits have room
+pub number_start : (s : List ℕ) → 0 ≡ le_of (drop (length s - 0) s)
+number_start s = sym (le_end s (length s - 0) (omega arith))
 
-pub number_done : (s : List ℕ) (i x : ℕ) → i ≤ 0 → x ≡ le_of (drop i s) → x ≡ le_of s
-number_done s i x h e =
-    let z : i ≡ 0 = omega arith in
+pub number_done : (s : List ℕ) (n x : ℕ) → n ≡ length s → x ≡ le_of (drop (length s - n) s) → x ≡ le_of s
+number_done s n x h e =
+    let z : length s - n ≡ 0 = omega arith in
     e ∙ ap (λ (j : ℕ). le_of (drop j s)) z
 
-module _ (s : List ℕ) (i x : ℕ) (p : 0 < i) (n : i ≤ length s) (k : length s ≤ 8) (e : x ≡ le_of (drop i s)) (b : Bytes s) where
+module _ (s : List ℕ) (n x : ℕ) (k : length s ≤ 8) (b : Bytes s) (e : x ≡ le_of (drop (length s - n) s)) (y : ℕ) (t : (n < length (reverse s)) × (y ≡ get_or (reverse s) n y)) where
+  inside : n < length s
+  inside = omega (arith, t.0, length-reverse s)
+
+  read : y ≡ get_or s (length s - 1 - n) 0
+  read = t.1 ∙ get_or-reverse s n y inside ∙ get_or_default_zero s (length s - 1 - n) y (omega (arith, inside))
+
   below : x < 256 ^ 7
-  below = rw e (le_lt 7 (drop i s) (simp length-drop (omega arith)) (λ j. rw get_or-drop (b (i + j))))
+  below = rw e (le_lt 7 (drop (length s - n) s) (simp length-drop (omega (arith, inside))) (λ j. rw get_or-drop (b (length s - n + j))))
 
   pub number_times : Fits w64 (x * 256)
   number_times = record { fits = omega (arith, below) }
 
-  pub number_sum : (y : ℕ) → y ≡ get_or s (i - 1) 0 → Fits w64 (x * 256 + y)
-  number_sum y f = record { fits = omega (arith, below, b (i - 1)) }
+  pub number_sum : (z : ℕ) → z ≡ y → Fits w64 (x * 256 + z)
+  number_sum z f = record { fits = omega (arith, below, read, b (length s - 1 - n)) }
 
-  pub number_turn : (y : ℕ) → y ≡ get_or s (i - 1) 0 → x * 256 + y ≡ le_of (drop (i - 1) s)
-  number_turn y f =
-      let back : i - 1 + 1 ≡ i = omega arith in
-      omega (arith, le_at s (i - 1) (omega arith), ap (λ (j : ℕ). le_of (drop j s)) back)
+  pub number_turn : (z : ℕ) → z ≡ y → x * 256 + z ≡ le_of (drop (length s - (n + 1)) s)
+  number_turn z f =
+      let one : length s - 1 - n ≡ length s - (n + 1) = omega arith in
+      let back : length s - (n + 1) + 1 ≡ length s - n = omega (arith, inside) in
+      omega (arith, le_at s (length s - (n + 1)) (omega (arith, inside)), ap (λ (j : ℕ). le_of (drop j s)) back, read, ap (λ (j : ℕ). get_or s j 0) one)
 
 -- ---- the bytes of a number
 pub length_le : (n x : ℕ) → length (le_bytes n x) ≡ n
@@ -105,6 +116,8 @@ pub put_done : (x i : ℕ) (l o : List ℕ) → l ≡ le_bytes i x ++ drop i o �
 put_done x i l o e a b n =
     let z : i ≡ length o = omega arith in
     e ∙ ap (λ (t : List ℕ). le_bytes i x ++ t) (drop_of_length-le o {i = i} (omega arith)) ∙ append-nil (le_bytes i x) ∙ ap (λ (j : ℕ). le_bytes j x) z
+
+pub ruleset puts = (put_start, rest_start, rest_turn, put_turn, put_done)
 
 -- ---- a number of n bytes, written and read; bytes, read and written
 pub le_back : (n x : ℕ) → x < 256 ^ n → le_of (le_bytes n x) ≡ x

@@ -9,3 +9,4 @@ pub mod CheckLaws
 pub mod ByteLaws
 pub mod PartLaws
 pub mod Unique
+pub mod RefusalLaws

@@ -40,6 +40,12 @@ unfolding sum_below
 sum_zero f zero h = refl
 sum_zero f (suc n) h = omega (arith, sum_zero f n (λ j l. h j (omega arith)), h n (omega arith))
 
+-- a sum in two parts
+pub sum_split : (f : ℕ → ℕ) (n d : ℕ) → sum_below (n + d) f ≡ sum_below n f + sum_below d (λ j. f (n + j))
+unfolding sum_below
+sum_split f n zero = ap (λ (m : ℕ). sum_below m f) (add-zero n) ∙ sym (add-zero (sum_below n f))
+sum_split f n (suc d) = ap (λ (m : ℕ). sum_below m f) (add-suc n d) ∙ omega (arith, sum_split f n d)
+
 -- what is 0 from n on adds nothing
 pub sum_tail : (f : ℕ → ℕ) (n d : ℕ) → ((j : ℕ) → n ≤ j → j < n + d → f j ≡ 0) → sum_below (n + d) f ≡ sum_below n f
 unfolding sum_below

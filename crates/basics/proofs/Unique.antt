@@ -6,6 +6,9 @@ use Prim.Native.Nat.{ℕ, ◌-◌, ◌<◌, min}
 use lib.ListN.{length}
 use Rattle.basics.specs.Ranges.{is_message, is_quantum, is_resend}
 use Rattle.basics.specs.Bytes.{le_bytes, all_zero}
+use Rattle.std.specs.Prelude.{Result}
+use Rattle.basics.specs.declared.refusal.Refusal.{Refusal}
+use Rattle.basics.specs.Refusals.{number_of, outcome_number}
 
 -- a call that hands back one answer
 pub one_answer : {A : Type 0} {r z x : A} → r ≡ x → z ≡ x → r ≡ z
@@ -39,3 +42,9 @@ one_put_number out x o o' p q = one_answer p q
 
 pub one_all_zero : (part : List ℕ) (r z : Bool) → r ≡ all_zero part → z ≡ all_zero part → r ≡ z
 one_all_zero part r z p q = one_answer p q
+
+pub one_refusal_number : (x : Refusal) (r z : ℕ) → r ≡ number_of x → z ≡ number_of x → r ≡ z
+one_refusal_number x r z p q = one_answer p q
+
+pub one_outcome_number : {T : Type 0} (x : Result T Refusal) (r z : ℕ) → r ≡ outcome_number x → z ≡ outcome_number x → r ≡ z
+one_outcome_number x r z p q = one_answer p q

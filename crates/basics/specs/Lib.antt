@@ -4,3 +4,4 @@ pub mod Largest
 pub mod Checks
 pub mod Ranges
 pub mod Bytes
+pub mod Refusals

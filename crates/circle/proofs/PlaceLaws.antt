@@ -1,8 +1,7 @@
 -- Places as the code finds and moves them: the search along the stretches, the end of a stretch, and the step. Assumes nothing.
 use mathlib.Core.Path.{◌≡◌, ap, sym, ◌∙◌}
-use mathlib.Core.List.{List, [], ◌∷◌}
+use mathlib.Core.List.{List}
 use Prim.Native.Nat.{ℕ, ◌+◌, ◌-◌, ◌*◌, ◌%◌, ◌≤◌, ◌<◌}
-use native.Mathlib.Decide.{dec_lt}
 use native.Mathlib.Nat.{mul-le-mul}
 use native.Mathlib.Omega.{arith}
 use lib.ListN.{length, get_or, take}
@@ -10,7 +9,7 @@ use mir.Val.{Fits}
 use mir.Syntax.{w64}
 use borrow.Author.Tests.{le-leb, lt-leb}
 use Rattle.shares.specs.Shares.{total_of}
-use Rattle.shares.proofs.ShareLaws.{total_none, total_take}
+use Rattle.shares.proofs.ShareLaws.{total_take}
 use Rattle.circle.specs.Stretches.{scaled, units_before, end_of, place_of, following, moved_of}
 use Rattle.circle.specs.declared.stretches.Place.{Place}
 use Rattle.circle.proofs.StretchLaws.{before_none, before_more, before_all, before_scaled, place_in, length_scaled, scaled_at}
@@ -25,34 +24,29 @@ pub stretch_fits : (f d : ℕ) → f ≤ 64_000_000 → d < 4294967296 → Fits 
 stretch_fits f d h k = product_fits f d h (omega arith)
 
 -- ---- the search for unit x: before member i's stretch there are x - rest units
-module _ (shares : List ℕ) (f x : ℕ) (inside : x < total_of (scaled f shares)) where
-  pub some_member : 0 < length shares
-  unfolding scaled
-  some_member = at_least shares inside
-    where
-      at_least : (s : List ℕ) → x < total_of (scaled f s) → 0 < length s
-      at_least [] h = absurd (omega (arith, total_none))
-      at_least (y ∷ s) h = omega arith
-
+module _ (shares : List ℕ) (f x : ℕ) where
   pub locate_start : units_before (scaled f shares) 0 + x ≡ x
   locate_start = omega (arith, before_none (scaled f shares))
 
-  module _ (i rest width : ℕ) (l : i < length shares) (e : units_before (scaled f shares) i + rest ≡ x) (w : width ≡ f * get_or shares i 0) where
-    pub more_members : width ≤ rest → i + 1 < length shares
-    more_members h = elim (dec_lt (i + 1) (length shares)) [
-      | yes m ↦ m
-      | no m ↦ (let z : i + 1 ≡ length (scaled f shares) = omega (arith, length_scaled f shares) in
-          absurd (omega (arith, before_more (scaled f shares) i, scaled_at f shares i, ap (units_before (scaled f shares)) z, before_all (scaled f shares))))
-    ]
+  module _ (i rest : ℕ) (e : units_before (scaled f shares) i + rest ≡ x) where
+    module _ (share : ℕ) (w : share ≡ get_or shares i 0) where
+      width : f * share ≡ f * get_or shares i 0
+      width = ap (λ (k : ℕ). f * k) w
 
-    pub locate_turn : width ≤ rest → units_before (scaled f shares) (i + 1) + (rest - width) ≡ x
-    locate_turn h = omega (arith, before_more (scaled f shares) i, scaled_at f shares i)
+      pub locate_turn : f * share ≤ rest → units_before (scaled f shares) (i + 1) + (rest - f * share) ≡ x
+      locate_turn h = omega (arith, width, before_more (scaled f shares) i, scaled_at f shares i)
 
-    pub locate_done : rest < width → record { member = i; left = width - rest } ≡ place_of (scaled f shares) x
-    locate_done h =
-        let p = place_in (scaled f shares) x i (omega (arith, length_scaled f shares)) (omega arith) (omega (arith, scaled_at f shares i)) in
-        let g : units_before (scaled f shares) i + get_or (scaled f shares) i 0 - x ≡ width - rest = omega (arith, scaled_at f shares i) in
-        sym (p ∙ ap (λ (k : ℕ). record { member = i; left = k }) g)
+      pub locate_done : i < length shares → rest < f * share → record { member = i; left = f * share - rest } ≡ place_of (scaled f shares) x
+      locate_done l h =
+          let p = place_in (scaled f shares) x i (omega (arith, length_scaled f shares)) (omega arith) (omega (arith, width, scaled_at f shares i)) in
+          let g : units_before (scaled f shares) i + get_or (scaled f shares) i 0 - x ≡ f * share - rest = omega (arith, width, scaled_at f shares i) in
+          sym (p ∙ ap (λ (k : ℕ). record { member = i; left = k }) g)
+
+    -- past the last stretch there are no units
+    pub locate_end : i ≤ length shares → length shares ≤ i → x < total_of (scaled f shares) → ⊥
+    locate_end l h inside =
+        let z : i ≡ length (scaled f shares) = omega (arith, length_scaled f shares) in
+        omega (arith, ap (units_before (scaled f shares)) z, before_all (scaled f shares))
 
 -- ---- where a stretch ends
 before_part : (shares : List ℕ) (n : ℕ) → n ≤ length shares → total_of (take n shares) ≡ units_before shares n

@@ -1,10 +1,10 @@
 // Stretches of one cluster on the circle: where a unit lies, and how a place moves on.
 ghost use Rattle.std.specs.Prelude.{◌≡◌, ◌+◌, ◌*◌, ◌%◌, ◌<◌, ◌≤◌, length, get_or};
 ghost use Rattle.shares.specs.Shares.{total_of};
-ghost use Rattle.circle.specs.Stretches.{scaled, end_of, place_of, same_place, following, moved_of};
+ghost use Rattle.circle.specs.Stretches.{scaled, end_of, place_of, following, moved_of};
 
 // Where a unit lies: its owner, and the units left of the owner's stretch, the unit itself among them.
-#[derive(Clone, Copy)]
+#[derive(Clone, Copy, PartialEq, Eq)]
 pub struct Place {
     pub member: u32,
     pub left: u64,
@@ -15,8 +15,7 @@ pub(crate) fn stretch(shares: &[u32], factor: u64, i: usize) -> u64
     requires { (factor ≤ 64000000) × (i < length shares.now) }
     ensures { result ≡ factor * get_or shares.now i 0 }
 {
-    let share = basics::wide(shares[i]);
-    factor * share
+    factor * u64::from(shares[i])
 }
 
 // The unit where member i's stretch ends, on a circle of l units.
@@ -36,18 +35,18 @@ pub fn locate(shares: &[u32], factor: u64, x: u64) -> Place
     requires { (length shares.now ≤ 64) × (factor ≤ 64000000) × (x < total_of (scaled factor shares.now)) }
     ensures { result ≡ place_of (scaled factor shares.now) x }
 {
-    let mut i = 0;
     let mut rest = x;
-    let mut width = stretch(shares, factor, 0);
-    while width <= rest {
+    for (i, share) in shares.iter().enumerate() {
+        let width = factor * u64::from(*share);
+        if rest < width {
+            return Place {
+                member: i as u32,
+                left: width - rest,
+            };
+        }
         rest -= width;
-        i += 1;
-        width = stretch(shares, factor, i);
     }
-    Place {
-        member: i as u32,
-        left: width - rest,
-    }
+    unreachable!()
 }
 
 // The member after member i of n: member 0 comes after the last.
@@ -76,11 +75,4 @@ pub fn moved(shares: &[u32], factor: u64, at: Place, run: u64) -> Place
         member: at.member,
         left: at.left - run,
     }
-}
-
-// Whether two places are the same.
-pub(crate) fn is_same_place(a: Place, b: Place) -> bool
-    ensures { result ≡ same_place a b }
-{
-    (a.member == b.member) & (a.left == b.left)
 }

@@ -4,13 +4,34 @@ ghost use Rattle.circle.specs.Positions.{Sized, circle_of, position_of};
 ghost use Rattle.circle.specs.TurnTable.{FirstSteps, TurnTable, ends_of};
 
 use crate::stretches::{Place, member_after, stretch};
-use crate::walk::{Circle, Position, circle_of, is_same, next, resend_at, start};
+use crate::walk::{Circle, Position, circle_of, next, resend_at, start};
 
-// A resend's two ends.
+// A resend's two ends. Not `deal::Pair`, which is of a first copy: this crate stands beside `deal` and knows no message.
 #[derive(Clone, Copy)]
 pub struct Ends {
     pub sender: u32,
     pub receiver: u32,
+}
+
+// The steps of a walk from unit 0, where resend 1 of the last member starts: the two ends of each, and for each member the step with which
+// its stretch begins, 128 where none does.
+#[derive(Drop)]
+struct Steps {
+    senders: [u32; 128],
+    receivers: [u32; 128],
+    begins: [u32; 64],
+}
+
+// One turn between two clusters: so many steps, after which the walk is back; none where it is not back within 128.
+#[derive(Drop)]
+pub struct Table<'a> {
+    pub ss: &'a [u32],
+    pub rs: &'a [u32],
+    steps: Steps,
+    count: u32,
+    pub ghost sending: { Sized ss.now },
+    pub ghost receiving: { Sized rs.now },
+    pub ghost table: { TurnTable ss.now rs.now steps.senders steps.receivers steps.begins count },
 }
 
 // The step with which the stretch at a place begins: step j where the whole of the stretch is left, else the one known before.
@@ -20,57 +41,6 @@ fn begin_at(shares: &[u32], factor: u64, at: Place, j: u32, before: u32) -> u32
 {
     let whole = stretch(shares, factor, at.member as usize);
     if at.left == whole { j } else { before }
-}
-
-// Step j, which starts at a position, put into the table; and where the next step starts.
-fn put_step(
-    ss: &[u32],
-    rs: &[u32],
-    c: Circle,
-    at: Position,
-    j: u32,
-    senders: &mut [u32],
-    receivers: &mut [u32],
-    begins: &mut [u32],
-) -> Position
-    requires sized { (Sized ss.now) × (Sized rs.now) × (c ≡ circle_of ss.now rs.now) × (at ≡ position_of ss.now rs.now (length ss.now - 1) (j + 1)) × (j < 128) }
-    requires first_steps { FirstSteps ss.now rs.now senders.old receivers.old begins.old j }
-    ensures value { result ≡ position_of ss.now rs.now (length ss.now - 1) (j + 1 + 1) }
-    ensures more_steps { FirstSteps ss.now rs.now senders.new receivers.new begins.new (j + 1) }
-{
-    let m = at.sender.member as usize;
-    senders[j as usize] = at.sender.member;
-    receivers[j as usize] = at.receiver.member;
-    let before = begins[m];
-    begins[m] = begin_at(ss, c.send, at.sender, j, before);
-    next(ss, rs, c, at)
-}
-
-// The table of one turn, and its steps; 0 where the walk is not back within 128. A turn has fewer, by `OneTurn`, but who reads the table
-// walks where it has no answer, and so nothing rests on that.
-// inner: for the shares of accepted clusters, and room for the table in which no stretch has begun.
-pub fn fill_turn(
-    ss: &[u32],
-    rs: &[u32],
-    senders: &mut [u32],
-    receivers: &mut [u32],
-    begins: &mut [u32],
-) -> u32
-    requires { (Sized ss.now) × (Sized rs.now) × (FirstSteps ss.now rs.now senders.old receivers.old begins.old 0) }
-    ensures { TurnTable ss.now rs.now senders.new receivers.new begins.new result }
-{
-    let c = circle_of(ss, rs);
-    let first = start(ss, rs, c, ss.len() - 1);
-    let mut at = first;
-    let mut j: u32 = 0;
-    while j < 128 {
-        at = put_step(ss, rs, c, at, j, senders, receivers, begins);
-        j += 1;
-        if is_same(at, first) {
-            return j;
-        }
-    }
-    0
 }
 
 // The step of resend n, where resend 1 is the step with which a stretch begins. Within the first turn nothing is divided.
@@ -85,33 +55,79 @@ fn step_of(begin: u32, n: u32, steps: u32) -> u32
     step % steps
 }
 
-// The ends of resend n, the original sender being member i: from the table, or walked where the table does not have them.
-// inner: as for the table; n is one more than a count of at most 255.
-pub fn ends_in_turn(
-    ss: &[u32],
-    rs: &[u32],
-    senders: &[u32],
-    receivers: &[u32],
-    begins: &[u32],
-    steps: u32,
-    i: usize,
-    n: u32,
-) -> Ends
-    requires sized { (Sized ss.now) × (Sized rs.now) × (i < length ss.now) × (1 ≤ n) × (n ≤ 256) }
-    requires turn_table { TurnTable ss.now rs.now senders.now receivers.now begins.now steps }
-    ensures { result ≡ ends_of ss.now rs.now i n }
-{
-    let begin = begins[member_after(ss.len(), i)];
-    if begin < steps {
-        let j = step_of(begin, n, steps) as usize;
-        return Ends {
-            sender: senders[j],
-            receiver: receivers[j],
-        };
+impl Steps {
+    // Step j, which starts at a position, put behind those before it; and where the next step starts.
+    fn put(&mut self, ss: &[u32], rs: &[u32], c: Circle, at: Position, j: u32) -> Position
+        requires sized { (Sized ss.now) × (Sized rs.now) × (c ≡ circle_of ss.now rs.now) × (at ≡ position_of ss.now rs.now (length ss.now - 1) (j + 1)) × (j < 128) }
+        requires first_steps { FirstSteps ss.now rs.now self.old.senders self.old.receivers self.old.begins j }
+        ensures value { result ≡ position_of ss.now rs.now (length ss.now - 1) (j + 1 + 1) }
+        ensures more_steps { FirstSteps ss.now rs.now self.new.senders self.new.receivers self.new.begins (j + 1) }
+    {
+        let m = at.sender.member as usize;
+        self.senders[j as usize] = at.sender.member;
+        self.receivers[j as usize] = at.receiver.member;
+        self.begins[m] = begin_at(ss, c.send, at.sender, j, self.begins[m]);
+        next(ss, rs, c, at)
     }
-    let resend = resend_at(ss, rs, i, n);
-    Ends {
-        sender: resend.sender,
-        receiver: resend.receiver,
+
+    // The steps of one turn, and how many; 0 where the walk is not back within 128. A turn has fewer, by `OneTurn`, but who reads the table
+    // walks where it has no answer, and so nothing rests on that.
+    fn walk(&mut self, ss: &[u32], rs: &[u32]) -> u32
+        requires { (Sized ss.now) × (Sized rs.now) × (FirstSteps ss.now rs.now self.old.senders self.old.receivers self.old.begins 0) }
+        ensures { TurnTable ss.now rs.now self.new.senders self.new.receivers self.new.begins result }
+    {
+        let c = circle_of(ss, rs);
+        let first = start(ss, rs, c, ss.len() - 1);
+        let mut at = first;
+        for j in 0..128 {
+            at = self.put(ss, rs, c, at, j);
+            if at == first {
+                return j + 1;
+            }
+        }
+        0
+    }
+}
+
+impl<'a> Table<'a> {
+    // The turn of two clusters.
+    // inner: for the shares of accepted clusters.
+    pub fn of(ss: &'a [u32], rs: &'a [u32]) -> Table<'a>
+        requires { (Sized ss.now) × (Sized rs.now) }
+        ensures { (result.ss.now ≡ ss.now) × (result.rs.now ≡ rs.now) }
+    {
+        let mut steps = Steps {
+            senders: [0; 128],
+            receivers: [0; 128],
+            begins: [128; 64],
+        };
+        let count = steps.walk(ss, rs);
+        Table {
+            ss,
+            rs,
+            steps,
+            count,
+        }
+    }
+
+    // The ends of resend n, the original sender being member i: from the table, or walked where the table does not have them.
+    // inner: for a member of the sending cluster; n is one more than a count of at most 255.
+    pub fn ends(&self, i: usize, n: u32) -> Ends
+        requires { (i < length self.now.ss.now) × (1 ≤ n) × (n ≤ 256) }
+        ensures { result ≡ ends_of self.now.ss.now self.now.rs.now i n }
+    {
+        let begin = self.steps.begins[member_after(self.ss.len(), i)];
+        if begin < self.count {
+            let j = step_of(begin, n, self.count) as usize;
+            return Ends {
+                sender: self.steps.senders[j],
+                receiver: self.steps.receivers[j],
+            };
+        }
+        let resend = resend_at(self.ss, self.rs, i, n);
+        Ends {
+            sender: resend.sender,
+            receiver: resend.receiver,
+        }
     }
 }

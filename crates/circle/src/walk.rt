@@ -1,9 +1,9 @@
 // The walk of the resends on the circle, one step a resend.
 ghost use Rattle.std.specs.Prelude.{◌≡◌, cond, ◌%◌, ◌<◌, ◌≤◌, length};
-ghost use Rattle.circle.specs.Positions.{Sized, OnCircle, circle_of, position_of, same_position, run_at, next_of, resend_from, resend_of};
+ghost use Rattle.circle.specs.Positions.{Sized, OnCircle, circle_of, position_of, run_at, next_of, resend_from, resend_of};
 
 use crate::euclid::multiple;
-use crate::stretches::{Place, is_same_place, locate, moved, stretch_end};
+use crate::stretches::{Place, locate, moved, stretch_end};
 
 // L and the two scale factors.
 #[derive(Clone, Copy)]
@@ -14,14 +14,14 @@ pub struct Circle {
 }
 
 // Where a resend's first unit lies in the two layouts.
-#[derive(Clone, Copy)]
+#[derive(Clone, Copy, PartialEq, Eq)]
 pub struct Position {
     pub sender: Place,
     pub receiver: Place,
 }
 
 // A resend: its two ends and its run.
-#[derive(Clone, Copy)]
+#[derive(Clone, Copy, Default)]
 pub struct Resend {
     pub sender: u32,
     pub receiver: u32,
@@ -60,7 +60,7 @@ pub fn start(ss: &[u32], rs: &[u32], c: Circle, i: usize) -> Position
 fn run_at(at: Position) -> u64
     ensures { result ≡ run_at at }
 {
-    basics::least(at.sender.left, at.receiver.left)
+    at.sender.left.min(at.receiver.left)
 }
 
 // Where the resend after the one at a position starts: resend n + 1 from resend n, whatever the original sender.
@@ -86,13 +86,6 @@ pub fn resend_from(at: Position) -> Resend
     }
 }
 
-// Whether two positions are the same: whether the walk is back.
-pub(crate) fn is_same(a: Position, b: Position) -> bool
-    ensures { result ≡ same_position a b }
-{
-    is_same_place(a.sender, b.sender) & is_same_place(a.receiver, b.receiver)
-}
-
 // The steps that are left to walk after k: once the walk is back, each k of them lead back again.
 fn steps_left(back: bool, left: u32, k: u32) -> u32
     requires { 1 ≤ k }
@@ -111,10 +104,11 @@ fn position_of(ss: &[u32], rs: &[u32], i: usize, n: u32) -> Position
     let mut at = first;
     let mut k: u32 = 0;
     let mut left = n - 1;
+    // No plain count: where the walk is back, all whole turns are taken off at once.
     while 0 < left {
         at = next(ss, rs, c, at);
         k += 1;
-        left = steps_left(is_same(at, first), left - 1, k);
+        left = steps_left(at == first, left - 1, k);
     }
     at
 }

@@ -2,8 +2,8 @@
 use mathlib.Core.Path.{◌≡◌, refl, ap, sym, ◌∙◌}
 use mathlib.Core.Bool.{cond}
 use mathlib.Core.List.{List}
-use Prim.Native.Nat.{ℕ, zero, suc, ◌+◌, ◌-◌, ◌*◌, ◌/◌, ◌%◌, ◌≤◌, ◌<◌, zero-le, min}
-use native.Mathlib.Nat.{add-zero, add-suc, add-mul, mul_comm, mul-div-le, le-div_iff_mul-le, mod-eq_of_lt, mod_self}
+use Prim.Native.Nat.{ℕ, zero, suc, ◌+◌, ◌-◌, ◌*◌, ◌/◌, ◌≤◌, ◌<◌, zero-le, min}
+use native.Mathlib.Nat.{add-zero, add-suc, add-mul, mul_comm, mul-div-le, le-div_iff_mul-le}
 use native.Mathlib.Decide.{dec_lt}
 use native.Mathlib.Numerals.{add-one}
 use native.Mathlib.Omega.{arith}
@@ -40,7 +40,7 @@ module _ (c : List ℕ) (t : ℕ) where
   takers_done e a b = many_done (still c t) e a b
 
   -- past the last member there are no more takers
-  pub takers_end : (i seen place : ℕ) → i ≤ length c → length c ≤ i → seen ≡ takers_before c t i → seen ≤ place → place ≤ takers_before c t (length c) → takers_before c t i ≡ place
+  pub takers_end : (i seen place : ℕ) → i ≤ length c → length c ≤ i → seen ≡ takers_before c t i → seen ≤ place → place ≤ takers_before c t (length c) → takers_before c t (length c) ≡ place
   takers_end i seen place a b e l m = let z : i ≡ length c = omega arith in omega (arith, ap (takers_before c t) z)
 
   takers_one : (i : ℕ) → t < get_or c i 0 → takers_before c t (i + 1) ≡ takers_before c t i + 1
@@ -148,9 +148,6 @@ module _ (c : List ℕ) (q slot t i : ℕ) (f : Fallen c q slot t i) where
       owner_at c q t slot (slots_before c t) (takers_before c t i) i d.early (omega (arith, d.passed))
       (omega (arith, d.passed, slots_next c t, takers_more c t i f.has f.takes)) refl (omega (arith, d.passed)) found
 
-  pub after_slot : (slot + 1 ≡ q → ⊥) → slot + 1 ≡ (slot + 1) % q
-  after_slot h = sym (mod-eq_of_lt (omega (arith, f.dealing.below)))
-
   pub after_dealing : (slot + 1 ≡ q → ⊥) → Dealing c q (slot + 1) t (i + 1)
   after_dealing h = record {
     whole = f.dealing.whole;
@@ -159,9 +156,6 @@ module _ (c : List ℕ) (q slot t i : ℕ) (f : Fallen c q slot t i) where
     among = omega (arith, f.has);
     passed = omega (arith, f.dealing.passed, takers_one c t i f.takes);
   }
-
-  pub again_slot : slot + 1 ≡ q → 0 ≡ (slot + 1) % q
-  again_slot h = sym (ap (λ (x : ℕ). x % q) h ∙ mod_self q)
 
   pub again_dealing : Dealing c q 0 0 0
   again_dealing = record {

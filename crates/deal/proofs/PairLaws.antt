@@ -15,8 +15,7 @@ use Rattle.basics.proofs.CheckLaws.{checks_passed, checks_failed, checks_first}
 use Rattle.hamilton.specs.Hamilton.{counts_of, Dealable}
 use Rattle.hamilton.proofs.JudgeLaws.{length_counts}
 use Rattle.deal.specs.Rounds.{slots_before, owner_of}
-use Rattle.deal.specs.Pairs.{slot_of, quantum_of, sender_of, receiver_of, pair_checks, pair_refusal, first_pair_refusal, first_pair_of, no_pair}
-use Rattle.deal.specs.declared.pairs.PairAnswer.{PairAnswer}
+use Rattle.deal.specs.Pairs.{slot_of, quantum_of, sender_of, receiver_of, pair_checks, pair_refusal, first_pair_refusal, PairAnswer, first_pair_of, no_pair}
 use Rattle.deal.proofs.JudgeLaws.{pair_numbered, sending_dealable, receiving_dealable}
 use Rattle.deal.proofs.DealIsWhole.{all_dealt}
 
@@ -86,6 +85,3 @@ module _ (s : List ℕ) (q : ℕ) (places z : List ℕ) (e : places ≡ counts_o
 
   pub places_whole : slots_before (take (length s) places) q ≡ q
   places_whole = ap (λ (c : List ℕ). slots_before c q) places_are ∙ all_dealt s q h
-
-  pub owner_told : (slot at r : ℕ) → at ≡ slot → r ≡ owner_of (take (length s) places) q at → r ≡ owner_of (counts_of s q) q slot
-  owner_told slot at r f g = g ∙ ap (λ (c : List ℕ). owner_of c q at) places_are ∙ ap (owner_of (counts_of s q) q) f

@@ -1,11 +1,13 @@
 -- The first copy of a message: who sends it, and to whom. Assumes nothing.
-use Rattle.std.specs.Prelude.{cond, List, [], ◌∷◌, ◌++◌, ℕ, ◌+◌, ◌-◌, ◌/◌, ◌%◌, eqb}
+use Rattle.std.specs.Prelude.{cond, Result, Ok, Err, List, [], ◌∷◌, ◌++◌, ℕ, ◌+◌, ◌-◌, ◌/◌, ◌%◌, eqb}
 use Rattle.basics.specs.Checks.{Check, ◌else◌, first_failing}
 use Rattle.basics.specs.Ranges.{is_quantum, is_message}
 use Rattle.shares.specs.Cluster.{cluster_checks}
 use Rattle.hamilton.specs.Hamilton.{counts_of}
 use Rattle.deal.specs.Rounds.{owner_of}
-use Rattle.deal.specs.declared.pairs.PairAnswer.{PairAnswer}
+use Rattle.basics.specs.declared.refusal.Refusal.{Refusal}
+use Rattle.basics.specs.Refusals.{number_of}
+use Rattle.deal.specs.declared.pairs.Pair.{Pair}
 
 -- Message k: slot s = (k − 1) mod q
 unfoldable pub slot_of : ℕ → ℕ → ℕ
@@ -36,6 +38,12 @@ unfoldable pub first_pair_refusal : List ℕ → ℕ → ℕ → List ℕ → �
 first_pair_refusal ss su sr rs ru rr q k =
     first_failing (pair_checks ss su sr rs ru rr q ++ ((is_message k else 6) ∷ []))
 
+-- a refusal's number, 0 for none, and a pair
+pub record PairAnswer : Type 0 where
+  pub refusal : ℕ
+  pub sender : ℕ
+  pub receiver : ℕ
+
 -- the refusal's number and zeros
 abbrev pub no_pair : ℕ → PairAnswer
 no_pair n = record { refusal = n; sender = 0; receiver = 0 }
@@ -49,3 +57,11 @@ first_pair_of ss su sr rs ru rr q k =
     cond (eqb (first_pair_refusal ss su sr rs ru rr q k) 0)
     (pair_at ss rs q k)
     (no_pair (first_pair_refusal ss su sr rs ru rr q k))
+
+-- the same of what the call hands back
+abbrev pub answered : Pair → PairAnswer
+answered p = record { refusal = 0; sender = p.sender; receiver = p.receiver }
+
+abbrev pub told : Result Pair Refusal → PairAnswer
+told (Ok p) = answered p
+told (Err x) = no_pair (number_of x)

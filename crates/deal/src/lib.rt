@@ -5,5 +5,5 @@ mod dealer;
 mod pairs;
 mod slots;
 
-pub use dealer::{Dealer, after, dealer_at, fallen};
-pub use pairs::{PairAnswer, first_pair, first_sender, pair_refusal};
+pub use dealer::Dealer;
+pub use pairs::{Pair, first_pair, first_sender, pair_refusal};

@@ -1,15 +1,16 @@
 // The first copy of a message: who sends it, and to whom.
 ghost use Rattle.std.specs.Prelude.{◌≡◌, ◌<◌};
+ghost use Rattle.basics.specs.Refusals.{outcome_number};
 ghost use Rattle.hamilton.specs.Hamilton.{counts_of, Dealable};
 ghost use Rattle.deal.specs.Rounds.{owner_of};
-ghost use Rattle.deal.specs.Pairs.{sender_of, receiver_of, pair_refusal, first_pair_refusal, first_pair_of};
+ghost use Rattle.deal.specs.Pairs.{sender_of, receiver_of, pair_refusal, first_pair_refusal, first_pair_of, told};
 
-use crate::dealer::{dealer_at, fallen};
+use crate::dealer::Dealer;
+use basics::Refusal;
 
-// A refusal and zeros, or 0 and the first copy's two ends.
-#[derive(Clone, Copy)]
-pub struct PairAnswer {
-    pub refusal: u32,
+// The first copy's two ends.
+#[derive(Clone, Copy, Default)]
+pub struct Pair {
     pub sender: u32,
     pub receiver: u32,
 }
@@ -22,9 +23,8 @@ fn owner(shares: &[u32], q: u32, slot: u32) -> u32
     let mut places = [0u32; 64];
     hamilton::fill_counts(shares, q, &mut places);
     let n = shares.len();
-    let at = dealer_at(&places[..n], q, slot);
-    let turn = fallen(&places[..n], q, at);
-    turn.member
+    let mut dealer = Dealer::at(&places[..n], q, slot);
+    dealer.deal()
 }
 
 // Who sends the first copy of message k.
@@ -33,7 +33,7 @@ pub fn first_sender(shares: &[u32], q: u32, k: u64) -> u32
     requires { Dealable shares.now q }
     ensures { result ≡ sender_of shares.now q k }
 {
-    let slot = basics::less(k, 1) % (q as u64);
+    let slot = k.saturating_sub(1) % (q as u64);
     owner(shares, q, slot as u32)
 }
 
@@ -42,7 +42,7 @@ fn first_receiver(shares: &[u32], q: u32, k: u64) -> u32
     requires { Dealable shares.now q }
     ensures { result ≡ receiver_of shares.now q k }
 {
-    let before = basics::less(k, 1);
+    let before = k.saturating_sub(1);
     let width = q as u64;
     let turned = before % width + before / width;
     let slot = turned % width;
@@ -50,21 +50,23 @@ fn first_receiver(shares: &[u32], q: u32, k: u64) -> u32
 }
 
 // The refusal that two clusters and a quantum get: 1, 2, 3 of the sending cluster, then of the receiving, 4.
-pub fn pair_refusal(ss: &[u32], su: u32, sr: u32, rs: &[u32], ru: u32, rr: u32, q: u32) -> u32
-    ensures { result ≡ pair_refusal ss.now su sr rs.now ru rr q }
+pub fn pair_refusal(
+    ss: &[u32],
+    su: u32,
+    sr: u32,
+    rs: &[u32],
+    ru: u32,
+    rr: u32,
+    q: u32,
+) -> Result<(), Refusal>
+    ensures { outcome_number result ≡ pair_refusal ss.now su sr rs.now ru rr q }
 {
-    let a = shares::cluster_refusal(ss, su, sr);
-    if a != 0 {
-        return a;
-    }
-    let b = shares::cluster_refusal(rs, ru, rr);
-    if b != 0 {
-        return b;
-    }
+    shares::cluster_refusal(ss, su, sr)?;
+    shares::cluster_refusal(rs, ru, rr)?;
     if !basics::is_quantum(q) {
-        return 4;
+        return Err(Refusal::Quantum);
     }
-    0
+    Ok(())
 }
 
 fn first_pair_refusal(
@@ -76,17 +78,14 @@ fn first_pair_refusal(
     rr: u32,
     q: u32,
     k: u64,
-) -> u32
-    ensures { result ≡ first_pair_refusal ss.now su sr rs.now ru rr q k }
+) -> Result<(), Refusal>
+    ensures { outcome_number result ≡ first_pair_refusal ss.now su sr rs.now ru rr q k }
 {
-    let n = pair_refusal(ss, su, sr, rs, ru, rr, q);
-    if n != 0 {
-        return n;
-    }
+    pair_refusal(ss, su, sr, rs, ru, rr, q)?;
     if !basics::is_message(k) {
-        return 6;
+        return Err(Refusal::Message);
     }
-    0
+    Ok(())
 }
 
 // The first copy's sender and receiver.
@@ -99,22 +98,11 @@ pub fn first_pair(
     rr: u32,
     q: u32,
     k: u64,
-) -> PairAnswer
-    ensures { result ≡ first_pair_of ss.now su sr rs.now ru rr q k }
+) -> Result<Pair, Refusal>
+    ensures { told result ≡ first_pair_of ss.now su sr rs.now ru rr q k }
 {
-    let n = first_pair_refusal(ss, su, sr, rs, ru, rr, q, k);
-    if n != 0 {
-        return PairAnswer {
-            refusal: n,
-            sender: 0,
-            receiver: 0,
-        };
-    }
-    let from = first_sender(ss, q, k);
-    let to = first_receiver(rs, q, k);
-    PairAnswer {
-        refusal: 0,
-        sender: from,
-        receiver: to,
-    }
+    first_pair_refusal(ss, su, sr, rs, ru, rr, q, k)?;
+    let sender = first_sender(ss, q, k);
+    let receiver = first_receiver(rs, q, k);
+    Ok(Pair { sender, receiver })
 }

@@ -1,5 +1,5 @@
 // The rounds of a deal, without listing it: the round that a slot is in, and its place there.
-ghost use Rattle.std.specs.Prelude.{◌≡◌, cond, ◌+◌, ◌≤◌, ◌<◌, min, ltb, length};
+ghost use Rattle.std.specs.Prelude.{◌≡◌, cond, ◌+◌, ◌≤◌, ◌<◌, ltb, length};
 ghost use Rattle.deal.specs.Rounds.{slots_before};
 ghost use Rattle.deal.specs.Dealing.{takers_before};
 
@@ -17,14 +17,7 @@ pub(crate) struct Spot {
     pub(crate) place: u32,
 }
 
-// The slots that a member with this count takes in the first t rounds.
-fn slots_taken(count: u32, t: u32) -> u32
-    ensures { result ≡ min count t }
-{
-    if count <= t { count } else { t }
-}
-
-// 1 where a member with this count takes a slot in round t, else 0.
+// 1 where a member with this count takes a slot in round t, else 0: what is asked has a name, so that the sums read as the document does.
 pub(crate) fn takes_slot(count: u32, t: u32) -> u32
     ensures { (result ≡ cond (ltb t count) 1 0) × (result ≤ 1) }
 {
@@ -38,11 +31,9 @@ fn round_at(counts: &[u32], t: u32) -> Round
 {
     let mut before: u32 = 0;
     let mut takers: u32 = 0;
-    let mut i = 0;
-    while i < counts.len() {
-        before += slots_taken(counts[i], t);
-        takers += takes_slot(counts[i], t);
-        i += 1;
+    for count in counts {
+        before += (*count).min(t);
+        takers += takes_slot(*count, t);
     }
     Round { before, takers }
 }
@@ -55,7 +46,8 @@ fn round_past(counts: &[u32], q: u32, slot: u32, t: u32, left: u32, takers: u32)
     t + left / takers
 }
 
-// Where a slot lies. From round to round as far as the takers' number lets one go at once: where shares differ little that is the round.
+// Where a slot lies. No plain count: from round to round as far as the takers' number lets one go at once, and where shares differ little
+// that is the round.
 pub(crate) fn spot_of(counts: &[u32], q: u32, slot: u32) -> Spot
     requires { (length counts.now ≤ 64) × (slot < slots_before counts.now q) × (slots_before counts.now q ≤ 4294967295) }
     ensures { (result.round < q) × (slots_before counts.now result.round + result.place ≡ slot) × (result.place < takers_before counts.now result.round (length counts.now)) }

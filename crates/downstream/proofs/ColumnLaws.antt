@@ -1,29 +1,23 @@
 -- Columns of the reports and of the entries, and the members that lack a message. Assumes nothing.
-use mathlib.Core.Path.{◌≡◌, ap, sym, ◌∙◌}
-use mathlib.Core.Bool.{Bool, true, false, cond, not, ◌&&◌, ◌||◌}
+use mathlib.Core.Path.{◌≡◌, ap, ◌∙◌}
+use mathlib.Core.Bool.{Bool, not, ◌&&◌, ◌||◌}
 use mathlib.Core.Logic.{inl, inr}
-use mathlib.Core.List.{List, ◌++◌, append-nil, map}
-use Prim.Native.Nat.{ℕ, ◌+◌, ◌≤◌, ◌<◌, min}
+use mathlib.Core.List.{List}
+use Prim.Native.Nat.{ℕ, ◌<◌, min}
 use native.Mathlib.Omega.{arith}
 use mir.Syntax.{w64}
 use mir.Val.{Fits}
 use lib.Dec.{ltb}
-use lib.ListN.{length, get_or, drop, set, replicate, drop_of_length-le, length-replicate, length-map}
-use Rattle.basics.specs.Sums.{list_below}
+use lib.ListN.{length, get_or}
 use Rattle.basics.proofs.BoolLaws.{bool_cases, ltb_same}
-use Rattle.basics.proofs.SumLaws.{all_cong, length_list, list_at, list_turn}
-use Rattle.marks.specs.Masks.{is_marked, mark_of, is_subset, reach_of}
+use Rattle.basics.proofs.SumLaws.{all_cong, length_list, list_at}
+use Rattle.marks.specs.Masks.{is_marked, is_subset, reach_of}
 use Rattle.marks.proofs.RunLaws.{reach_above}
-use Rattle.marks.specs.Held.{holds_of}
 use Rattle.marks.proofs.SetLaws.{marked_set}
 use Rattle.downstream.specs.declared.state.Report.{Report}
 use Rattle.downstream.specs.declared.state.Entry.{Entry}
 use Rattle.downstream.specs.State.{no_entry, report_at, numbers_of, masks_of, counts_of, complaints_of, held_by, lacking_of}
 use Rattle.downstream.specs.Formed.{complaints_kept}
-
--- what owning an array tells of its list: it has so many places
-pub places_known : {A B : Type 0} (f : A → B) (l : List A) (n : ℕ) → length (map f l) ≡ n → length l ≡ n
-places_known f l n e = sym (length-map l f) ∙ e
 
 pub number_at : (reports : List Report) (i : ℕ) → i < 64 → get_or (numbers_of reports) i 0 ≡ (report_at reports i).number
 unfolding numbers_of
@@ -45,24 +39,7 @@ pub complaint_at : (entries : List Entry) (i : ℕ) → i < 64 → get_or (compl
 unfolding complaints_of
 complaint_at entries i l = list_at (λ j. (get_or entries j no_entry).complaints) 0 64 i l
 
--- a column is filled from the front
-pub column_turn : (f : ℕ → ℕ) (i : ℕ) {v : ℕ} {l : List ℕ} → l ≡ list_below i f ++ drop i (replicate 64 0) → i < 64 → length l ≡ 64 → v ≡ f i
-    → set l i v ≡ list_below (i + 1) f ++ drop (i + 1) (replicate 64 0)
-column_turn f i {v} {l} e h n q = list_turn f {i = i} {v = v} {l = l} (replicate 64 0) e (omega arith) (n ∙ sym (length-replicate {A = ℕ} 64 0)) q
-
-pub column_done : (f : ℕ → ℕ) (i : ℕ) (l o : List ℕ) → l ≡ list_below i f ++ drop i o → length o ≡ 64 → i ≤ 64 → 64 ≤ i → l ≡ list_below 64 f
-column_done f i l o e n a b =
-    let z : i ≡ 64 = omega arith in
-    e ∙ ap (λ (t : List ℕ). list_below i f ++ t) (drop_of_length-le o {i = i} (omega arith)) ∙ append-nil (list_below i f) ∙ ap (λ (j : ℕ). list_below j f) z
-
 -- ---- the set of those that lack
-module _ (number mask k t i : ℕ) {b : Bool} (e : b ≡ holds_of number mask k) where
-  pub lacks_not : b ≡ true → t ≡ cond (not (holds_of number mask k)) (mark_of t i) t
-  lacks_not h = simp (sym e ∙ h)
-
-  pub lacks : (r : ℕ) → b ≡ false → r ≡ mark_of t i → r ≡ cond (not (holds_of number mask k)) (mark_of t i) t
-  lacks r h q = simp (sym e ∙ h) q
-
 pub subset_lacking : (n : ℕ) (numbers masks : List ℕ) (k bits : ℕ) {l : ℕ} {b : Bool} → l ≡ lacking_of numbers masks n k → b ≡ is_subset bits l → b ≡ complaints_kept n numbers masks k bits
 unfolding is_subset lacking_of complaints_kept
 subset_lacking n numbers masks k bits {l} {b} e q = q ∙ rw e (simp (marked_set (λ i. not (held_by numbers masks k i)) n))

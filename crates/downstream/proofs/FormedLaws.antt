@@ -1,24 +1,21 @@
 -- Whether all that belongs to a receiving cluster is kept, from what the code knows where it answers. Assumes nothing.
 use mathlib.Core.Path.{◌≡◌, refl, sym, ◌∙◌}
-use mathlib.Core.Bool.{Bool, true, false, not, ◌&&◌}
+use mathlib.Core.Bool.{Bool, true, false, ◌&&◌}
 use mathlib.Core.List.{List}
 use Prim.Native.Nat.{ℕ, ◌+◌, ◌≤◌, ◌<◌}
 use native.Mathlib.Omega.{arith}
-use lib.Dec.{leb, ltb, eqb}
+use lib.Dec.{leb, eqb}
 use lib.ListN.{length, take, length-take}
 use borrow.Author.Tests.{le-leb, lt-leb, leb-true, eqb-true, not-true, not-false}
 use borrow.Author.Rules.{rules}
 use Rattle.basics.specs.Ranges.{message_limit}
 use Rattle.basics.proofs.BoolLaws.{and_left, and_right}
 use Rattle.shares.specs.Cluster.{cluster_refusal}
-use Rattle.marks.specs.Masks.{is_marked}
-use Rattle.marks.specs.Held.{none_above}
 use Rattle.downstream.specs.declared.state.Cluster.{Cluster}
-use Rattle.downstream.specs.declared.state.Report.{Report}
 use Rattle.downstream.specs.declared.state.Entry.{Entry}
 use Rattle.downstream.specs.declared.state.Downstream.{Downstream}
 use Rattle.downstream.specs.State.{shares_of, numbers_of, masks_of, point_from}
-use Rattle.downstream.specs.Formed.{span_kept, report_kept, cluster_kept, places_zero, complaints_kept, entry_kept, entries_kept, reports_kept, downstream_kept}
+use Rattle.downstream.specs.Formed.{span_kept, cluster_kept, places_zero, entry_kept, entries_kept, reports_kept, downstream_kept}
 
 pub span_high : (p s : ℕ) → message_limit < s → false ≡ span_kept p s
 unfolding span_kept
@@ -31,14 +28,6 @@ span_low p s h l = simp (le-leb s message_limit h, lt-leb p s l)
 pub span_near : (p s : ℕ) → s ≤ message_limit → p ≤ s → leb s (p + 64) ≡ span_kept p s
 unfolding span_kept
 span_near p s h l = simp (le-leb s message_limit h, le-leb p s l)
-
-module _ (members s i : ℕ) (rep : Report) where
-  pub report_heard : (first none : Bool) → first ≡ is_marked rep.mask 0 → none ≡ none_above rep.number rep.mask s → rep.heard ≡ true
-      → (ltb i members && not first && none) ≡ report_kept members s i rep
-  report_heard first none a b h = simp (h, a, b)
-
-  pub report_unheard : rep.heard ≡ false → (eqb rep.number 0 && eqb rep.mask 0) ≡ report_kept members s i rep
-  report_unheard h = simp h
 
 -- ---- the first n places of a cluster's shares
 pub prefix_fits : (n : ℕ) (l : List ℕ) → n ≤ 64 → length l ≡ 64 → n ≤ length l
@@ -63,13 +52,9 @@ module _ (c : Cluster) where
   unfolding cluster_kept
   cluster_judged refusal zero l a b = simp (le-leb c.members 64 l, a, b)
 
--- ---- entries
-module _ (n : ℕ) (numbers masks : List ℕ) (s : ℕ) where
-  pub entry_open : (k : ℕ) (e : Entry) (named : Bool) → k ≤ s → named ≡ complaints_kept n numbers masks k e.complaints → (leb e.count 255 && named) ≡ entry_kept n numbers masks s k e
-  entry_open k e named l a = simp (le-leb k s l, a)
-
-  pub entry_closed : (k : ℕ) (e : Entry) → s < k → (eqb e.count 0 && eqb e.complaints 0) ≡ entry_kept n numbers masks s k e
-  entry_closed k e l = simp (lt-leb k s l)
+-- ---- an entry above S
+pub entry_closed : (n : ℕ) (numbers masks : List ℕ) (s k : ℕ) (e : Entry) → s < k → (eqb e.count 0 && eqb e.complaints 0) ≡ entry_kept n numbers masks s k e
+entry_closed n numbers masks s k e l = simp (lt-leb k s l)
 
 -- ---- what a kept span and a kept cluster say
 pub span_limit : (p s : ℕ) → span_kept p s ≡ true → s ≤ message_limit

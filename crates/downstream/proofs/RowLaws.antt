@@ -38,9 +38,6 @@ module _ (numbers masks : List ℕ) (p : ℕ) where
   unfolding held_rows
   rows_turn i n v l o e h m k q = list_turn word {i = i} {v = v} {l = l} o e (omega arith) k q
 
-  pub rows_done : (i n : ℕ) (l o : List ℕ) → l ≡ held_rows numbers masks p i ++ drop i o → i ≤ n → n ≤ i → l ≡ held_rows numbers masks p n ++ drop n o
-  rows_done i n l o e a b = let z : i ≡ n = omega arith in rw z at e
-
 -- ---- where a word changes
 module _ (rows : List ℕ) where
   pub steady_start : Steady rows 0 0
@@ -72,9 +69,6 @@ module _ (rows : List ℕ) where
         | inl t ↦ no_both (marked_or s change j ∙ or_right (is_marked s j) (is_marked change j) t) e
         | inr t ↦ t
       ]
-
-  pub steady_done : (i n s : ℕ) → Steady rows i s → i ≤ n → n ≤ i → Steady rows n s
-  steady_done i n s h a b = let z : i ≡ n = omega arith in rw z at h
 
 -- ---- how far no word changes
 pub steady_found : (set o n w still r : ℕ) → Fits w64 set → o < n → n ≤ 64 → w ≡ set / 2 ^ o → still ≡ run_of (18446744073709551615 - w) → r ≡ min (o + still + 1) n → SteadyUntil set o n r

@@ -3,7 +3,7 @@ use mathlib.Core.Path.{◌≡◌, refl, ap, ap₂, sym, ◌∙◌}
 use mathlib.Core.Bool.{Bool, true, false, not, ◌&&◌, ◌||◌}
 use mathlib.Core.List.{List}
 use Prim.Native.Nat.{ℕ, zero, suc, ◌+◌, ◌-◌, ◌≤◌, ◌<◌}
-use native.Mathlib.Nat.{add-zero, add-suc}
+use native.Mathlib.Nat.{add-zero}
 use native.Mathlib.Decide.{dec_lt}
 use native.Mathlib.Omega.{arith}
 use lib.Bits.{bit_or}
@@ -18,6 +18,7 @@ use Rattle.marks.proofs.SetLaws.{marked_or}
 use Rattle.downstream.specs.State.{place_after, held_by}
 use Rattle.downstream.specs.Formed.{complaints_kept}
 use Rattle.downstream.specs.Rows.{held_rows, Steady, SteadyUntil, all_complaints_kept, named_among}
+use Rattle.downstream.proofs.ListLaws.{all_parts}
 use Rattle.downstream.proofs.RowLaws.{held_next}
 
 -- ---- all that is named
@@ -33,10 +34,7 @@ module _ (complaints : List ℕ) (p from : ℕ) where
       let y : from + (o - from) ≡ o = omega arith in
       rw (z, y) (ap (λ (x : ℕ). bit_or x (get_or complaints (place_after p o) 0)) e)
 
-  pub named_done : (o to any : ℕ) → any ≡ named_among complaints p from (o - from) → o ≤ to → to ≤ o → any ≡ named_among complaints p from (to - from)
-  named_done o to any e a b = let z : o ≡ to = omega arith in rw z at e
-
--- ---- two tests of each number, and of numbers in two parts
+-- ---- two tests of each number
 all_both : (f g : ℕ → Bool) (n : ℕ) → all_below n (λ j. f j && g j) ≡ (all_below n f && all_below n g)
 unfolding all_below
 all_both f g zero = refl
@@ -47,19 +45,6 @@ all_both f g (suc n) = ap (λ (b : Bool). b && (f n && g n)) (all_both f g n) �
     crossed true false true y = refl
     crossed true false false y = refl
     crossed false b x y = refl
-
-all_parts : (f : ℕ → Bool) (o n : ℕ) → all_below (o + n) f ≡ (all_below o f && all_below n (λ j. f (o + j)))
-unfolding all_below
-all_parts f o zero = ap (λ (x : ℕ). all_below x f) (add-zero o) ∙ sym (and_true (all_below o f))
-  where
-    and_true : (b : Bool) → (b && true) ≡ b
-    and_true true = refl
-    and_true false = refl
-all_parts f o (suc n) = ap (λ (x : ℕ). all_below x f) (add-suc o n) ∙ ap (λ (b : Bool). b && f (o + n)) (all_parts f o n) ∙ moved (all_below o f) (all_below n (λ j. f (o + j))) (f (o + n))
-  where
-    moved : (a b x : Bool) → ((a && b) && x) ≡ (a && (b && x))
-    moved true b x = refl
-    moved false b x = refl
 
 module _ (members : ℕ) (numbers masks complaints : List ℕ) (p : ℕ) where
   abbrev lacks : ℕ → ℕ → Bool

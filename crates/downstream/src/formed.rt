@@ -1,24 +1,17 @@
 // Whether all that belongs to a receiving cluster is well formed: every clause, for any values, in an order in which no sum can wrap.
 ghost use Rattle.std.specs.Prelude.{◌≡◌, true, ◌≤◌, eqb};
+ghost use Rattle.std.specs.List.{list_all};
 ghost use Rattle.downstream.specs.State.{point_from};
-ghost use Rattle.downstream.specs.Formed.{places_zero, cluster_kept, span_kept, report_kept, reports_kept, complaints_kept, entry_kept, entries_kept, downstream_kept};
+ghost use Rattle.downstream.specs.Formed.{cluster_kept, span_kept, report_kept, reports_kept, complaints_kept, entry_kept, entries_kept, downstream_kept};
 
 use crate::columns::{lacking, masks_of, numbers_of};
 use crate::state::{Cluster, Downstream, Entry, Report};
 
-// Share places past the cluster's end are zero.
-fn places_zero(c: Cluster) -> bool
-    ensures { result ≡ places_zero c }
+// Whether every one of these shares is zero.
+fn all_zero(shares: &[u32]) -> bool
+    ensures { result ≡ list_all (λ x. eqb x 0) shares.now }
 {
-    let shares = c.shares;
-    let n = c.members as usize;
-    let mut zero = true;
-    let mut i: usize = 0;
-    while i < 64 {
-        zero = zero & ((i < n) | (shares[i] == 0));
-        i += 1;
-    }
-    zero
+    shares.iter().all(|share| *share == 0)
 }
 
 pub fn cluster_kept(c: Cluster) -> bool
@@ -28,10 +21,9 @@ pub fn cluster_kept(c: Cluster) -> bool
     if 64 < n {
         return false;
     }
-    let shares = c.shares;
-    let refusal = shares::cluster_refusal(&shares[..n], c.u, c.r);
-    let zero = places_zero(c);
-    (refusal == 0) & zero
+    let (shares, past) = c.shares.split_at(n);
+    let accepted = shares::cluster_refusal(shares, c.u, c.r).is_ok();
+    accepted & all_zero(past)
 }
 
 // Whether p ≤ S ≤ p + 64, and S is in range.
@@ -64,10 +56,8 @@ fn reports_kept(members: u32, reports: [Report; 64], s: u64) -> bool
     ensures { result ≡ reports_kept members reports s }
 {
     let mut kept = true;
-    let mut i: usize = 0;
-    while i < 64 {
-        kept = kept & report_kept(members, s, i, reports[i]);
-        i += 1;
+    for (i, report) in reports.iter().enumerate() {
+        kept &= report_kept(members, s, i, *report);
     }
     kept
 }
@@ -84,7 +74,7 @@ pub(crate) fn complaints_kept(
     requires { n ≤ 64 }
     ensures { result ≡ complaints_kept n numbers.now masks.now k bits }
 {
-    let past = basics::least(n as u64, marks::reach(bits)) as usize;
+    let past = marks::reach(bits).min(n as u64) as usize;
     marks::is_subset(bits, lacking(numbers, masks, past, k))
 }
 
@@ -113,11 +103,9 @@ fn entries_kept(
     ensures { result ≡ entries_kept n numbers.now masks.now entries p s }
 {
     let mut kept = true;
-    let mut o: u64 = 0;
-    while o < 64 {
+    for o in 0..64 {
         let at = ((p + o) % 64) as usize;
-        kept = kept & entry_kept(n, numbers, masks, s, p + 1 + o, entries[at]);
-        o += 1;
+        kept &= entry_kept(n, numbers, masks, s, p + 1 + o, entries[at]);
     }
     kept
 }
@@ -129,8 +117,7 @@ pub fn point_from(c: Cluster, numbers: [u64; 64]) -> u64
     ensures { result ≡ point_from c numbers }
 {
     let n = c.members as usize;
-    let shares = c.shares;
-    shares::point(&shares[..n], &numbers, c.u as u64 + 1)
+    shares::point(&c.shares[..n], &numbers, u64::from(c.u) + 1)
 }
 
 // Whether p is the point that the members' numbers give.
@@ -139,8 +126,7 @@ fn point_kept(c: Cluster, numbers: &[u64; 64], p: u64) -> bool
     ensures { result ≡ eqb p (point_from c numbers.now) }
 {
     let n = c.members as usize;
-    let shares = c.shares;
-    shares::is_point(&shares[..n], numbers, c.u as u64 + 1, p)
+    shares::is_point(&c.shares[..n], numbers, u64::from(c.u) + 1, p)
 }
 
 pub fn downstream_kept(d: Downstream, s: u64) -> bool
@@ -155,12 +141,10 @@ pub fn downstream_kept(d: Downstream, s: u64) -> bool
         return false;
     }
     let n = cluster.members as usize;
-    let reports = d.reports;
-    let entries = d.entries;
-    let numbers = numbers_of(reports);
-    let masks = masks_of(reports);
-    let told = reports_kept(cluster.members, reports, s);
+    let numbers = numbers_of(d.reports);
+    let masks = masks_of(d.reports);
+    let told = reports_kept(cluster.members, d.reports, s);
     let point = point_kept(cluster, &numbers, p);
-    let open = entries_kept(n, &numbers, &masks, entries, p, s);
+    let open = entries_kept(n, &numbers, &masks, d.entries, p, s);
     told & point & open
 }

@@ -8,10 +8,8 @@ pub fn fill_held(out: &mut [u64], numbers: &[u64; 64], masks: &[u64; 64], p: u64
     requires { (n ≤ 64) × (n ≤ length out.old) }
     ensures { out.new ≡ held_rows numbers.now masks.now p n ++ drop n out.old }
 {
-    let mut i: usize = 0;
-    while i < n {
+    for i in 0..n {
         out[i] = marks::held_after(p, numbers[i], masks[i]);
-        i += 1;
     }
 }
 
@@ -19,12 +17,9 @@ pub fn fill_held(out: &mut [u64], numbers: &[u64; 64], masks: &[u64; 64], p: u64
 pub fn changes(rows: &[u64]) -> u64
     ensures { Steady rows.now (length rows.now) result }
 {
-    let mut set: u64 = 0;
-    let mut i = 0;
-    while i < rows.len() {
-        let row = rows[i];
-        set = set | (row ^ (row >> 1));
-        i += 1;
+    let mut set = 0;
+    for row in rows {
+        set |= row ^ (row >> 1);
     }
     set
 }
@@ -35,6 +30,6 @@ pub fn steady_until(changing: u64, o: u64, n: u64) -> u64
     requires { (o < n) × (n ≤ 64) }
     ensures { SteadyUntil changing o n result }
 {
-    let still = marks::run(!marks::past(changing, o)) as u64;
-    basics::least(o + still + 1, n)
+    let still = u64::from(marks::run(!marks::past(changing, o)));
+    (o + still + 1).min(n)
 }

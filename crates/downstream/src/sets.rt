@@ -11,11 +11,9 @@ fn named_among(complaints: &[u64; 64], p: u64, from: u64, to: u64) -> u64
     requires { (from ≤ to) × (to ≤ 64) × (p ≤ 1000000000000) }
     ensures { result ≡ named_among complaints.now p from (to - from) }
 {
-    let mut any: u64 = 0;
-    let mut o = from;
-    while o < to {
-        any = any | complaints[((p + o) % 64) as usize];
-        o += 1;
+    let mut any = 0;
+    for o in from..to {
+        any |= complaints[((p + o) % 64) as usize];
     }
     any
 }
@@ -37,7 +35,8 @@ pub fn all_complaints_kept(
     fill_held(&mut rows, numbers, masks, p, members);
     let changing = changes(&rows[..members]);
     let mut kept = true;
-    let mut o: u64 = 0;
+    let mut o = 0;
+    // From change to change, not by one.
     while o < n {
         let next = steady_until(changing, o, n);
         let bits = named_among(complaints, p, o, next);

@@ -1,7 +1,7 @@
 // What is kept of a cluster, a report and an open message, as structs by value.
 
 // A cluster as the state keeps it: share places past its members are zero.
-#[derive(Clone, Copy)]
+#[derive(Clone, Copy, PartialEq, Eq)]
 pub struct Cluster {
     pub members: u32,
     pub u: u32,
@@ -9,8 +9,9 @@ pub struct Cluster {
     pub shares: [u32; 64],
 }
 
-// The latest report of a member: cumulative number and mask, and whether it has reported at all.
-#[derive(Clone, Copy)]
+// The latest report of a member: cumulative number and mask, and whether it has reported at all. A flag beside them, and no `Option`: document
+// 01 names this form.
+#[derive(Clone, Copy, PartialEq, Eq, Default)]
 pub struct Report {
     pub number: u64,
     pub mask: u64,
@@ -18,14 +19,14 @@ pub struct Report {
 }
 
 // What is kept of an open message: how often it was sent again, and the set of members that complain of it.
-#[derive(Clone, Copy)]
+#[derive(Clone, Copy, PartialEq, Eq, Default)]
 pub struct Entry {
     pub count: u32,
     pub complaints: u64,
 }
 
 // All that belongs to one receiving cluster.
-#[derive(Clone, Copy)]
+#[derive(Clone, Copy, PartialEq, Eq)]
 pub struct Downstream {
     pub cluster: Cluster,
     pub point: u64,

@@ -13,8 +13,7 @@ use Rattle.basics.proofs.BoolLaws.{and_left, and_right}
 use Rattle.basics.proofs.CheckLaws.{checks_passed, checks_failed, first_passed, later_passed}
 use Rattle.basics.proofs.SumLaws.{length_list}
 use Rattle.shares.specs.Shares.{total_of}
-use Rattle.shares.specs.Cluster.{cluster_checks, cluster_refusal, cluster_answer, Accepted}
-use Rattle.shares.specs.declared.cluster.ClusterAnswer.{ClusterAnswer}
+use Rattle.shares.specs.Cluster.{cluster_checks, cluster_refusal, ClusterAnswer, cluster_answer, Accepted}
 use Rattle.shares.proofs.ClusterLaws.{cluster_numbered, accepts, total_small, answer_refusal, answer_total}
 use Rattle.hamilton.specs.Hamilton.{count_of, counts_of, Dealable}
 use Rattle.hamilton.specs.Counts.{later_checks, later_refusal, counts_refusal, counts_out}
@@ -40,24 +39,23 @@ module _ (s : List ℕ) (u r q : ℕ) (o : List ℕ) (a : ClusterAnswer) (e : a 
   unfolding counts_out
   kept n f z = simp (← f, ne_eqb n 0 z)
 
-  pub cluster_refused : (a.refusal ≡ 0 → ⊥) → a.refusal ≡ counts_refusal s u r q (length o)
+  pub cluster_refused : (n : ℕ) → n ≡ a.refusal → (n ≡ 0 → ⊥) → (n ≡ counts_refusal s u r q (length o)) × (o ≡ counts_out s u r q o)
   unfolding counts_refusal cluster_refusal
-  cluster_refused z = checks_failed (cluster_checks s u r) (later_checks q (length s) (length o)) (sym judged) z
-
-  pub cluster_kept_lem : (a.refusal ≡ 0 → ⊥) → o ≡ counts_out s u r q o
-  cluster_kept_lem z = kept a.refusal (cluster_refused z) z
+  cluster_refused n p z =
+      let f : n ≡ counts_refusal s u r q (length o) = checks_failed (cluster_checks s u r) (later_checks q (length s) (length o)) (p ∙ sym judged) z in
+      (f, kept n f z)
 
   module _ (y : a.refusal ≡ 0) where
     pub total_told : a.total ≡ total_of s
     total_told = answer_total s u r a e y
 
     module _ (n : ℕ) (f : n ≡ later_refusal q (length s) (length o)) where
-      pub later_told : n ≡ counts_refusal s u r q (length o)
+      later_told : n ≡ counts_refusal s u r q (length o)
       unfolding counts_refusal cluster_refusal later_refusal
       later_told = checks_passed (cluster_checks s u r) (later_checks q (length s) (length o)) (judged ∙ y) f (cluster_numbered s u r)
 
-      pub later_kept : (n ≡ 0 → ⊥) → o ≡ counts_out s u r q o
-      later_kept z = kept n later_told z
+      pub later_refused : (m : ℕ) → m ≡ n → (m ≡ 0 → ⊥) → (m ≡ counts_refusal s u r q (length o)) × (o ≡ counts_out s u r q o)
+      later_refused m p z = (p ∙ later_told, kept m (p ∙ later_told) z)
 
       module _ (z : n ≡ 0) where
         pub counts_dealable : Dealable s q
@@ -70,12 +68,9 @@ module _ (s : List ℕ) (u r q : ℕ) (o : List ℕ) (a : ClusterAnswer) (e : a 
             leb-true (length s) (length o)
             (first_passed (leb (length s) (length o)) 5 [] (lit< tt) (later_passed (is_quantum q) 4 ((leb (length s) (length o) else 5) ∷ []) (lit< tt) (sym f ∙ z)))
 
-        pub counts_accepted : 0 ≡ counts_refusal s u r q (length o)
-        counts_accepted = sym z ∙ later_told
-
-        pub counts_filled : (l : List ℕ) → l ≡ counts_of s q ++ drop (length s) o → l ≡ counts_out s u r q o
+        pub counts_answered : (l : List ℕ) → l ≡ counts_of s q ++ drop (length s) o → (0 ≡ counts_refusal s u r q (length o)) × (l ≡ counts_out s u r q o)
         unfolding counts_out
-        counts_filled l g = simp (← later_told, eq-eqb n 0 z) g
+        counts_answered l g = (sym z ∙ later_told, simp (← later_told, eq-eqb n 0 z) g)
 
 -- one count for each member
 pub length_counts : (s : List ℕ) (q : ℕ) → length (counts_of s q) ≡ length s

@@ -1,12 +1,14 @@
 // Hamilton's counts of an accepted cluster.
 ghost use Rattle.std.specs.Prelude.{◌≡◌, cond, ◌++◌, ℕ, ◌+◌, ◌≤◌, ◌<◌, ltb, length, get_or, drop};
 ghost use Rattle.basics.specs.Sums.{list_below};
+ghost use Rattle.basics.specs.Refusals.{outcome_number};
 ghost use Rattle.hamilton.specs.Hamilton.{counts_of, Dealable};
 ghost use Rattle.hamilton.specs.Counts.{later_refusal, counts_refusal, counts_out};
 ghost use Rattle.shares.specs.Shares.{total_of};
 
 use crate::quotas::fill_quotas;
 use crate::ranks::{is_below, threshold};
+use basics::Refusal;
 
 // A lower quota, and one more where the member's key is below the end.
 fn count(quota: u32, key: u32, end: u32) -> u32
@@ -22,10 +24,8 @@ fn add_leftovers(keys: &[u32; 64], n: usize, end: u32, out: &mut [u32])
     requires small { (i : ℕ) → i < n → get_or out.old i 0 ≤ 1024 }
     ensures { out.new ≡ list_below n (λ i. get_or out.old i 0 + cond (ltb (get_or keys.now i 0) end) 1 0) ++ drop n out.old }
 {
-    let mut i = 0;
-    while i < n {
-        out[i] = count(out[i], keys[i], end);
-        i += 1;
+    for (i, key) in keys[..n].iter().enumerate() {
+        out[i] = count(out[i], *key, end);
     }
 }
 
@@ -53,30 +53,25 @@ pub fn fill_counts(shares: &[u32], q: u32, out: &mut [u32])
 }
 
 // What the call for counts may be refused with after its cluster: 4, 5, for so many members and places.
-fn later_refusal(q: u32, members: usize, room: usize) -> u32
-    ensures { result ≡ later_refusal q members room }
+fn later_refusal(q: u32, members: usize, room: usize) -> Result<(), Refusal>
+    ensures { outcome_number result ≡ later_refusal q members room }
 {
     if !basics::is_quantum(q) {
-        return 4;
+        return Err(Refusal::Quantum);
     }
     if room < members {
-        return 5;
+        return Err(Refusal::ShortOutput);
     }
-    0
+    Ok(())
 }
 
-// Hamilton's counts: a refusal, or 0 and the counts in the output's first places.
-pub fn counts(shares: &[u32], u: u32, r: u32, q: u32, out: &mut [u32]) -> u32
-    ensures { (result ≡ counts_refusal shares.now u r q (length out.old)) × (out.new ≡ counts_out shares.now u r q out.old) }
+// Hamilton's counts: refused, or the counts in the output's first places.
+pub fn counts(shares: &[u32], u: u32, r: u32, q: u32, out: &mut [u32]) -> Result<(), Refusal>
+    ensures { (outcome_number result ≡ counts_refusal shares.now u r q (length out.old)) × (out.new ≡ counts_out shares.now u r q out.old) }
 {
     let cluster = shares::judge_cluster(shares, u, r);
-    if cluster.refusal != 0 {
-        return cluster.refusal;
-    }
-    let n = later_refusal(q, shares.len(), out.len());
-    if n != 0 {
-        return n;
-    }
+    cluster.outcome?;
+    later_refusal(q, shares.len(), out.len())?;
     fill_counts_of(shares, cluster.total, q, out);
-    0
+    Ok(())
 }

@@ -31,14 +31,12 @@ pub(crate) fn fill_quotas(shares: &[u32], q: u32, d: u32, keys: &mut [u32], out:
     ensures keys_after { keys.new ≡ list_below (length shares.now) (λ i. (total_of shares.now - remainder_of shares.now q i) * 64 + i) ++ drop (length shares.now) keys.old }
 {
     let mut rest = q;
-    let mut i = 0;
-    while i < shares.len() {
-        let product = times(shares[i], q);
+    for (i, share) in shares.iter().enumerate() {
+        let product = times(*share, q);
         let low = product / d;
         out[i] = low;
         keys[i] = key(product, d, i);
         rest -= low;
-        i += 1;
     }
     rest
 }

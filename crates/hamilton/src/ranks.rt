@@ -2,7 +2,7 @@
 ghost use Rattle.std.specs.Prelude.{◌≡◌, cond, ℕ, ◌+◌, ◌*◌, ◌%◌, ◌≤◌, ◌<◌, ltb, get_or};
 ghost use Rattle.basics.specs.Sums.{how_many};
 
-// 1 where the key is below the end, else 0.
+// 1 where the key is below the end, else 0: said once for the number of keys and for the counts.
 pub(crate) fn is_below(key: u32, end: u32) -> u32
     ensures { (result ≡ cond (ltb key end) 1 0) × (result ≤ 1) }
 {
@@ -15,10 +15,8 @@ fn below(keys: &[u32; 64], n: usize, end: u32) -> u32
     ensures { result ≡ how_many n (λ j. ltb (get_or keys.now j 0) end) }
 {
     let mut found: u32 = 0;
-    let mut j = 0;
-    while j < n {
-        found += is_below(keys[j], end);
-        j += 1;
+    for key in &keys[..n] {
+        found += is_below(*key, end);
     }
     found
 }
@@ -61,6 +59,7 @@ pub(crate) fn threshold(keys: &[u32; 64], n: usize, rest: u32, end: u32) -> u32
     let mut low = 0;
     let mut high = end;
     let mut member = rest as usize;
+    // No count: what is left between the two ends is parted.
     while low + 1 < high {
         let mid = between(keys[member], low, high);
         member = member_after(member, step, n);

@@ -19,9 +19,8 @@ use Rattle.marks.specs.Held.{none_above, highest_of}
 use Rattle.marks.proofs.MaskLaws.{mark_in}
 use Rattle.marks.proofs.RunLaws.{reach_told}
 use Rattle.holdings.specs.State.{well_formed}
-use Rattle.holdings.specs.Arrival.{arrival_refusal, risen_of, marked_of, taken_of, arrival_of}
+use Rattle.holdings.specs.Arrival.{arrival_refusal, risen_of, marked_of, taken_of, ArrivalAnswer, arrival_of}
 use Rattle.holdings.specs.declared.state.Holdings.{Holdings}
-use Rattle.holdings.specs.declared.arrival.ArrivalAnswer.{ArrivalAnswer}
 
 -- ---- the number of well-formed holdings is at most the limit, and leaves room for a small one beside it
 formed_low : (h : Holdings) → well_formed h ≡ true → h.number ≤ message_limit
@@ -98,5 +97,3 @@ module _ (h : Holdings) (k n : ℕ) (e : n ≡ arrival_refusal h k) where
   arrival_taken t z f = simp (← e, z, ← f)
 
 pub ruleset taking = (taken_held, taken_next, taken_later, rules)
-
-pub ruleset arriving = (arrival_refused, arrival_taken, accepted_low, accepted_near, rules)

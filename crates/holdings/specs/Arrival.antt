@@ -1,11 +1,12 @@
 -- The arrival of a message at a receiving member. Assumes nothing.
-use Rattle.std.specs.Prelude.{cond, [], ◌∷◌, ℕ, ◌+◌, ◌-◌, ◌/◌, ◌^◌, leb, eqb}
+use Rattle.std.specs.Prelude.{cond, Result, Ok, Err, [], ◌∷◌, ℕ, ◌+◌, ◌-◌, ◌/◌, ◌^◌, leb, eqb}
 use Rattle.basics.specs.Checks.{◌else◌, first_failing}
 use Rattle.basics.specs.Ranges.{is_message}
 use Rattle.marks.specs.Masks.{mark_of, run_of}
 use Rattle.holdings.specs.State.{well_formed}
 use Rattle.holdings.specs.declared.state.Holdings.{Holdings}
-use Rattle.holdings.specs.declared.arrival.ArrivalAnswer.{ArrivalAnswer}
+use Rattle.basics.specs.declared.refusal.Refusal.{Refusal}
+use Rattle.basics.specs.Refusals.{number_of}
 
 -- Arrival: 17, 6, 18.
 unfoldable pub arrival_refusal : Holdings → ℕ → ℕ
@@ -30,9 +31,19 @@ marked_of h k =
 unfoldable pub taken_of : Holdings → ℕ → Holdings
 taken_of h k = cond (leb k h.number) h (marked_of h k)
 
+-- a refusal's number, 0 for none, and holdings
+pub record ArrivalAnswer : Type 0 where
+  pub refusal : ℕ
+  pub holdings : Holdings
+
 -- an arrival: the refusal's number, and the holdings after it, which a refusal leaves unchanged
 unfoldable pub arrival_of : Holdings → ℕ → ArrivalAnswer
 arrival_of h k = record {
   refusal = arrival_refusal h k;
   holdings = cond (eqb (arrival_refusal h k) 0) (taken_of h k) h;
 }
+
+-- the same of what the call hands back: a refusal leaves the given holdings
+abbrev pub told : Holdings → Result Holdings Refusal → ArrivalAnswer
+told h (Ok next) = record { refusal = 0; holdings = next }
+told h (Err x) = record { refusal = number_of x; holdings = h }

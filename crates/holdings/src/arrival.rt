@@ -1,40 +1,36 @@
 // The arrival of one message.
 ghost use Rattle.std.specs.Prelude.{◌≡◌, ◌+◌, ◌≤◌};
-ghost use Rattle.holdings.specs.Arrival.{risen_of, taken_of, arrival_refusal, arrival_of};
+ghost use Rattle.basics.specs.Refusals.{outcome_number};
+ghost use Rattle.holdings.specs.Arrival.{risen_of, taken_of, arrival_refusal, arrival_of, told};
 
 use crate::state::{Holdings, well_formed};
-use basics::{is_message, wide};
+use basics::{Refusal, is_message};
 use marks::{mark, past, run};
 
-// The refusal's number, or 0, and the holdings after the arrival.
-#[derive(Clone, Copy)]
-pub struct ArrivalAnswer {
-    pub refusal: u32,
-    pub holdings: Holdings,
-}
-
-// The number of the first check that fails, or 0.
-fn refusal_of(h: Holdings, k: u64) -> u32
-    ensures { result ≡ arrival_refusal h k }
+// The first check that fails, if any.
+#[tactic(auto, using(basics::proofs::CheckLaws::checks), unfolding(crate::specs::Arrival::arrival_refusal))]
+fn refusal_of(h: Holdings, k: u64) -> Result<(), Refusal>
+    ensures { outcome_number result ≡ arrival_refusal h k }
 {
     if !well_formed(h) {
-        return 17;
+        return Err(Refusal::IllFormed);
     }
     if !is_message(k) {
-        return 6;
+        return Err(Refusal::Message);
     }
     if h.number + 64 < k {
-        return 18;
+        return Err(Refusal::TooEarly);
     }
-    0
+    Ok(())
 }
 
 // The number after it has risen over the marks that follow it. With all 64 marked, no shift is made.
+#[tactic(auto, using(crate::proofs::ArrivalLaws::rises))]
 fn risen(number: u64, mask: u64) -> Holdings
     requires { number ≤ 1000000000000 }
     ensures { result ≡ risen_of number mask }
 {
-    let rise = wide(run(mask));
+    let rise = u64::from(run(mask));
     Holdings {
         number: number + rise,
         mask: past(mask, rise),
@@ -43,6 +39,7 @@ fn risen(number: u64, mask: u64) -> Holdings
 
 // The holdings with message k taken in. The next message is asked for first, since it mostly is that one. A later one has a bit of
 // its own, so near it is.
+#[tactic(auto, using(crate::proofs::ArrivalLaws::taking))]
 fn taken(h: Holdings, k: u64) -> Holdings
     requires { (h.number ≤ 1000000000000) × (k ≤ h.number + 64) }
     ensures { result ≡ taken_of h k }
@@ -60,29 +57,18 @@ fn taken(h: Holdings, k: u64) -> Holdings
     }
 }
 
-// One arrival, by value.
-pub fn arrive(h: Holdings, k: u64) -> ArrivalAnswer
-    ensures { result ≡ arrival_of h k }
+// One arrival, by value: the holdings after it.
+pub fn arrive(h: Holdings, k: u64) -> Result<Holdings, Refusal>
+    ensures { told h result ≡ arrival_of h k }
 {
-    let refusal = refusal_of(h, k);
-    if refusal != 0 {
-        return ArrivalAnswer {
-            refusal,
-            holdings: h,
-        };
-    }
-    let holdings = taken(h, k);
-    ArrivalAnswer {
-        refusal: 0,
-        holdings,
-    }
+    refusal_of(h, k)?;
+    Ok(taken(h, k))
 }
 
 // One arrival at holdings that their owner lends.
-pub fn arrive_at(h: &mut Holdings, k: u64) -> u32
-    ensures { (result ≡ (arrival_of h.old k).refusal) × (h.new ≡ (arrival_of h.old k).holdings) }
+pub fn arrive_at(h: &mut Holdings, k: u64) -> Result<(), Refusal>
+    ensures { (outcome_number result ≡ (arrival_of h.old k).refusal) × (h.new ≡ (arrival_of h.old k).holdings) }
 {
-    let a = arrive(*h, k);
-    *h = a.holdings;
-    a.refusal
+    *h = arrive(*h, k)?;
+    Ok(())
 }

@@ -4,5 +4,5 @@
 mod arrival;
 mod state;
 
-pub use arrival::{ArrivalAnswer, arrive, arrive_at};
-pub use state::{Holdings, ReportAnswer, fresh, report, well_formed};
+pub use arrival::{arrive, arrive_at};
+pub use state::{Holdings, fresh, report, well_formed};

@@ -1,20 +1,13 @@
 // The holdings of a receiving member, and its report.
 ghost use Rattle.std.specs.Prelude.{◌≡◌};
-ghost use Rattle.holdings.specs.State.{fresh_holdings, well_formed, report_of};
+ghost use Rattle.holdings.specs.State.{fresh_holdings, well_formed, report_of, told};
 
+use basics::Refusal;
 use marks::{is_marked, none_above};
 
 // Every message up to `number` is held, and bit b of `mask` speaks of message number + 1 + b.
-#[derive(Clone, Copy)]
+#[derive(Clone, Copy, Default)]
 pub struct Holdings {
-    pub number: u64,
-    pub mask: u64,
-}
-
-// A report, or the number 17 and zeros.
-#[derive(Clone, Copy)]
-pub struct ReportAnswer {
-    pub refusal: u32,
     pub number: u64,
     pub mask: u64,
 }
@@ -28,7 +21,7 @@ pub fn fresh() -> Holdings
 
 // Whether bit 0 is clear and nothing is held above the highest message number. Where c lies 64 or more below it, as it nearly always
 // does, no mark reaches above.
-#[tactic(auto, using(crate::proofs::ArrivalLaws::formed_far))]
+#[tactic(auto, using(crate::proofs::ArrivalLaws::formed_far), unfolding(crate::specs::State::well_formed))]
 pub fn well_formed(h: Holdings) -> bool
     ensures { result ≡ well_formed h }
 {
@@ -40,20 +33,13 @@ pub fn well_formed(h: Holdings) -> bool
 }
 
 // The member's report: the number and the mask as they are.
-pub fn report(h: Holdings) -> ReportAnswer
-    ensures { result ≡ report_of h }
+#[tactic(auto, using(basics::proofs::BoolLaws::branches), unfolding(crate::specs::State::report_of))]
+pub fn report(h: Holdings) -> Result<Holdings, Refusal>
+    ensures { told result ≡ report_of h }
 {
     if well_formed(h) {
-        ReportAnswer {
-            refusal: 0,
-            number: h.number,
-            mask: h.mask,
-        }
+        Ok(h)
     } else {
-        ReportAnswer {
-            refusal: 17,
-            number: 0,
-            mask: 0,
-        }
+        Err(Refusal::IllFormed)
     }
 }

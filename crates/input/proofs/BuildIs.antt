@@ -9,8 +9,7 @@ use lib.ListN.{length, get_or}
 use borrow.Author.Tests.{eqb-true, eq-eqb, ne_eqb, leb-true, le-leb}
 use Rattle.basics.specs.Bytes.{all_zero, part}
 use Rattle.basics.proofs.BoolLaws.{either, and_left, and_right, and_not_left, and_not_right}
-use Rattle.input.specs.declared.input.Build.{Build}
-use Rattle.input.specs.Input.{is_kind, is_share, second_of, shares_from, senders, receivers, in_order, is_built, build_of}
+use Rattle.input.specs.Input.{is_kind, is_share, second_of, shares_from, senders, receivers, in_order, is_built, build_of, Build}
 use Rattle.input.specs.Build.{BuiltOf}
 
 -- a record of one kind is no share of another

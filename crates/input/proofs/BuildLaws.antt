@@ -11,8 +11,7 @@ use mir.Syntax.{w64}
 use borrow.Author.Tests.{le-leb, lt-leb}
 use borrow.Author.Rules.{rules}
 use Rattle.basics.proofs.SumLaws.{length_list}
-use Rattle.input.specs.declared.input.Build.{Build}
-use Rattle.input.specs.Input.{first_of, shares_from, senders, receivers, in_order, is_built, badly_built, build_of, shares_at}
+use Rattle.input.specs.Input.{first_of, shares_from, senders, receivers, in_order, is_built, badly_built, build_of, shares_at, Build}
 use Rattle.input.specs.Build.{BuiltOf}
 
 -- ---- the three ways through `build_of`

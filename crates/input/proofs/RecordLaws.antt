@@ -5,7 +5,9 @@ use mathlib.Core.List.{List, ◌++◌}
 use Prim.Native.Nat.{ℕ, zero, suc, ◌+◌, ◌*◌, ◌-◌, ◌/◌, ◌<◌, ◌≤◌}
 use native.Mathlib.Omega.{arith}
 use lib.Dec.{eqb, ltb}
-use lib.ListN.{length, get_or, drop, set, length-take}
+use lib.ListN.{length, get_or, take, drop, set, length-take}
+use lib.Seq.{length-take-le}
+use Rattle.std.proofs.lemmas.List.{append-nil, drop_all}
 use mir.Val.{Fits}
 use mir.Syntax.{w32}
 use borrow.Author.Rules.{rules}
@@ -92,18 +94,20 @@ module _ (s : List ℕ) (k i n r : ℕ) (e : r + shares_from k s (i + r) (n - r)
 
 pub ruleset counting = (count_start, count_turn, count_stop, count_done, rules)
 
--- ---- the copy of the shares
-module _ (s : List ℕ) (i : ℕ) where
-  pub copy_start : (o : List ℕ) → o ≡ shares_at s i 0 ++ drop 0 o
+-- ---- the copy of the shares, into the first n places of o
+module _ (s : List ℕ) (i n : ℕ) (o : List ℕ) where
+  pub copy_start : take n o ≡ shares_at s i 0 ++ drop 0 (take n o)
   unfolding shares_at
-  copy_start o = list_start (λ j. first_of s (i + j)) o
+  copy_start = list_start (λ j. first_of s (i + j)) (take n o)
 
-  pub copy_turn : (j n v : ℕ) (l o : List ℕ) → l ≡ shares_at s i j ++ drop j o → j < n → n ≤ length o → length l ≡ length o → v ≡ first_of s (i + j)
-      → set l j v ≡ shares_at s i (j + 1) ++ drop (j + 1) o
-  unfolding shares_at
-  copy_turn j n v l o e h k m q = list_turn (λ m. first_of s (i + m)) o e (omega arith) m q
+  module _ (j : ℕ) (l : List ℕ) (e : l ≡ shares_at s i j ++ drop j (take n o)) where
+    pub copy_turn : (v : ℕ) → j < length (take n o) → length l ≡ length (take n o) → v ≡ first_of s (i + j) → set l j v ≡ shares_at s i (j + 1) ++ drop (j + 1) (take n o)
+    unfolding shares_at
+    copy_turn v h k q = list_turn (λ m. first_of s (i + m)) (take n o) e (omega arith) k q
 
-  pub copy_done : (j n : ℕ) (l o : List ℕ) → l ≡ shares_at s i j ++ drop j o → j ≤ n → n ≤ j → l ≡ shares_at s i n ++ drop n o
-  copy_done j n l o e a b = let z : j ≡ n = omega arith in rw z at e
+    pub copy_done : n ≤ length o → j ≤ length (take n o) → length (take n o) ≤ j → l ++ drop n o ≡ shares_at s i n ++ drop n o
+    copy_done h a b =
+        let z : j ≡ n = omega (arith, length-take-le n o h) in
+        ap (λ (m : List ℕ). m ++ drop n o) (e ∙ rw (drop_all j (take n o) b, append-nil, z))
 
 pub ruleset copying = (copy_start, copy_turn, copy_done, rules)

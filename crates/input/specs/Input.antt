@@ -1,8 +1,8 @@
 -- The plan program's input: which is well built, and the numbers in it. Assumes nothing.
-use Rattle.std.specs.Prelude.{Bool, true, false, cond, ◌&&◌, List, ℕ, zero, suc, ◌+◌, ◌*◌, ◌/◌, leb, ltb, eqb, length, get_or}
+use Rattle.std.specs.Prelude.{Bool, true, false, cond, ◌&&◌, Option, None, Some, List, ℕ, zero, suc, ◌+◌, ◌*◌, ◌/◌, leb, ltb, eqb, length, get_or}
 use Rattle.basics.specs.Bytes.{le_of, all_zero, part}
 use Rattle.basics.specs.Sums.{list_below}
-use Rattle.input.specs.declared.input.Build.{Build}
+use Rattle.input.specs.declared.input.Build as code
 use Rattle.input.specs.declared.input.Numbers.{Numbers}
 
 -- 12-byte records: kind, three zeros ..
@@ -45,12 +45,23 @@ in_order s a b =
 unfoldable pub is_built : List ℕ → Bool
 is_built s = leb (length s) 4_096 && in_order s (senders s) (receivers s)
 
+-- whether an input is well built, and how many shares it has of both kinds
+pub record Build : Type 0 where
+  pub built : Bool
+  pub senders : ℕ
+  pub receivers : ℕ
+
 -- how an input is built: badly, with zeros, or with so many kinds 2 and so many kinds 4
 abbrev pub badly_built : Build
 badly_built = record { built = false; senders = 0; receivers = 0 }
 
 unfoldable pub build_of : List ℕ → Build
 build_of s = cond (is_built s) (record { built = true; senders = senders s; receivers = receivers s }) badly_built
+
+-- the same of what the call hands back
+abbrev pub told : Option code.Build → Build
+told None = badly_built
+told (Some b) = record { built = true; senders = b.senders; receivers = b.receivers }
 
 -- n shares from record i on
 unfoldable pub shares_at : List ℕ → ℕ → ℕ → List ℕ

@@ -1,6 +1,6 @@
 // The input's 12-byte records: whether they are well built, and what they say.
 ghost use Rattle.std.specs.Prelude.{◌≡◌, ◌++◌, ◌+◌, ◌/◌, ◌<◌, ◌≤◌, length, drop};
-ghost use Rattle.input.specs.Input.{is_kind, number_at, is_share, shares_from, in_order, build_of, shares_at, numbers_of};
+ghost use Rattle.input.specs.Input.{is_kind, number_at, is_share, shares_from, in_order, build_of, told, shares_at, numbers_of};
 
 // The numbers beside the shares: u and r of the sending cluster, u and r of the receiving cluster, quantum and message.
 #[derive(Clone, Copy)]
@@ -13,10 +13,9 @@ pub struct Numbers {
     pub message: u32,
 }
 
-// Whether an input is well built, and how many sending and receiving shares it then has; otherwise zeros.
+// How many sending and receiving shares a well built input has.
 #[derive(Clone, Copy)]
 pub struct Build {
-    pub built: bool,
     pub senders: usize,
     pub receivers: usize,
 }
@@ -61,15 +60,12 @@ fn shares_from(s: &[u8], k: u8, i: usize) -> usize
     ensures { (result ≡ shares_from k s.now i (length s.now / 12)) × (result ≤ length s.now / 12) }
 {
     let n = s.len() / 12;
-    let mut r = 0;
-    while r < n {
-        if is_share(s, k, i + r) {
-            r += 1;
-        } else {
+    for r in 0..n {
+        if !is_share(s, k, i + r) {
             return r;
         }
     }
-    r
+    n
 }
 
 // The kinds 1, 3 and 5 stand where a shares and b shares leave them, and nothing comes after.
@@ -84,30 +80,19 @@ fn in_order(s: &[u8], a: usize, b: usize) -> bool
     whole & (one & (three & five))
 }
 
-// How an input of any bytes is built.
-pub fn build_of(s: &[u8]) -> Build
-    ensures { result ≡ build_of s.now }
+// How an input of any bytes is built, where it is well built.
+pub fn build_of(s: &[u8]) -> Option<Build>
+    ensures { told result ≡ build_of s.now }
 {
     if 4096 < s.len() {
-        return Build {
-            built: false,
-            senders: 0,
-            receivers: 0,
-        };
+        return None;
     }
-    let a = shares_from(s, 2, 1);
-    let b = shares_from(s, 4, a + 2);
-    if in_order(s, a, b) {
-        return Build {
-            built: true,
-            senders: a,
-            receivers: b,
-        };
-    }
-    Build {
-        built: false,
-        senders: 0,
-        receivers: 0,
+    let senders = shares_from(s, 2, 1);
+    let receivers = shares_from(s, 4, senders + 2);
+    if in_order(s, senders, receivers) {
+        Some(Build { senders, receivers })
+    } else {
+        None
     }
 }
 
@@ -117,10 +102,8 @@ pub fn fill_shares(s: &[u8], i: usize, n: usize, out: &mut [u32])
     requires { (i + n ≤ length s.now / 12) × (n ≤ length out.old) }
     ensures { out.new ≡ shares_at s.now i n ++ drop n out.old }
 {
-    let mut j = 0;
-    while j < n {
-        out[j] = number_at(s, i + j, FIRST);
-        j += 1;
+    for (j, share) in out[..n].iter_mut().enumerate() {
+        *share = number_at(s, i + j, FIRST);
     }
 }
 

@@ -1,5 +1,5 @@
 -- Which messages enough members complain of, from what the code knows where it answers. Assumes nothing.
-use mathlib.Core.Path.{◌≡◌, refl, ap, sym, ◌∙◌}
+use mathlib.Core.Path.{◌≡◌, refl, ap, ◌∙◌}
 use mathlib.Core.Bool.{Bool, true, false, cond, ◌&&◌}
 use mathlib.Core.List.{List}
 use Prim.Native.Nat.{ℕ, zero, suc, ◌+◌, ◌*◌, ◌%◌, ◌^◌, ◌≤◌, ◌<◌}
@@ -10,10 +10,12 @@ use native.Mathlib.Omega.{arith}
 use lib.Bits.{bit_or, or_zero_r}
 use mir.Val.{bool_byte}
 use lib.Dec.{leb, ltb}
-use lib.ListN.{get_or}
+use lib.ListN.{length, get_or}
 use borrow.Author.Tests.{lt-leb}
 use Rattle.basics.proofs.BoolLaws.{or_left, or_right, and_not_left}
+use Rattle.marks.specs.Gathered.{any_of}
 use Rattle.marks.specs.Masks.{is_marked, mark_of, set_below}
+use Rattle.marks.proofs.GatheredLaws.{any_all_by_index}
 use Rattle.marks.proofs.MaskLaws.{mark_in}
 use Rattle.marks.proofs.SetLaws.{set_turn, marked_or}
 use Rattle.shares.specs.Shares.{share_of}
@@ -23,16 +25,9 @@ use Rattle.judging.specs.Verdicts.{enough_against, complainers_of}
 
 -- ---- those that complain of anything
 module _ (complaints : List ℕ) where
-  pub complainers_start : 0 ≡ complainers_of complaints 0
+  pub complainers_any : (any : ℕ) → any ≡ any_of complaints → length complaints ≡ 64 → any ≡ complainers_of complaints 64
   unfolding complainers_of
-  complainers_start = refl
-
-  pub complainers_turn : (i any : ℕ) → any ≡ complainers_of complaints i → bit_or any (get_or complaints i 0) ≡ complainers_of complaints (i + 1)
-  unfolding complainers_of
-  complainers_turn i any e = rw (add-one, e)
-
-  pub complainers_done : (i any : ℕ) → any ≡ complainers_of complaints i → i ≤ 64 → 64 ≤ i → any ≡ complainers_of complaints 64
-  complainers_done i any e a b = let z : i ≡ 64 = omega arith in rw z at e
+  complainers_any any e long = e ∙ any_all_by_index (complainers_of complaints) complaints 64 refl (λ k. rw add-one) long
 
   complainer_in : (n j b : ℕ) → j < n → is_marked (get_or complaints j 0) b ≡ true → is_marked (complainers_of complaints n) b ≡ true
   unfolding complainers_of
@@ -41,10 +36,6 @@ module _ (complaints : List ℕ) where
     | yes k ↦ or_left (is_marked (complainers_of complaints n) b) (is_marked (get_or complaints n 0) b) (complainer_in n j b k h)
     | no k ↦ (let z : j ≡ n = omega arith in or_right (is_marked (complainers_of complaints n) b) (is_marked (get_or complaints n 0) b) (rw z at h))
   ]
-
--- ---- the last set that was weighed
-pub weighed_same : (shares : List ℕ) (share members last : ℕ) → share ≡ share_of shares (is_marked last) → members ≡ last → share ≡ share_of shares (is_marked members)
-weighed_same shares share members last e f = e ∙ ap (λ (x : ℕ). share_of shares (is_marked x)) (sym f)
 
 -- ---- a test that is made a bit
 pub bit_put : (set o : ℕ) (b : Bool) → o < 64 → bit_or set ((bool_byte b * 2 ^ o) % 18446744073709551616) ≡ cond b (mark_of set o) set

@@ -39,7 +39,7 @@ module _ (step : ℕ → Entry → Entry) (p : ℕ) (entries : List Entry) where
       entries_place n (place_after p o) (omega arith)
       ∙ ap (λ (x : ℕ). cond (ltb x n) (step x (get_or entries (place_after p o) no_entry)) no_entry) (offset_place p o l)
 
-  -- ---- the loop over the messages: its start, a turn, its end
+  -- ---- the loop over the messages: its start and a turn
   pub entries_start : replicate 64 no_entry ≡ entries_after step p 0 entries
   unfolding entries_after
   entries_start = list_is (entry_at 0) no_entry 64 (replicate 64 no_entry) (length-replicate 64 no_entry)
@@ -66,6 +66,3 @@ module _ (step : ℕ → Entry → Entry) (p : ℕ) (entries : List Entry) where
 
       same : (j : ℕ) → j ≡ place_after p o → get_or (set (entries_after step p o entries) (place_after p o) v) j no_entry ≡ v
       same j z = rw z (get_or-set_same (entries_after step p o entries) (place_after p o) v no_entry (omega (arith, entries_length o)))
-
-  pub entries_done : (o n : ℕ) {l : List Entry} → l ≡ entries_after step p o entries → o ≤ n → n ≤ o → l ≡ entries_after step p n entries
-  entries_done o n {l} e a b = let z : o ≡ n = omega arith in rw z at e

@@ -8,13 +8,7 @@ ghost use Rattle.judging.specs.Verdicts.{enough_against, complainers_of};
 pub(crate) fn complainers(complaints: &[u64; 64]) -> u64
     ensures { result ≡ complainers_of complaints.now 64 }
 {
-    let mut any: u64 = 0;
-    let mut i: usize = 0;
-    while i < 64 {
-        any = any | complaints[i];
-        i += 1;
-    }
-    any
+    marks::any_of(complaints)
 }
 
 // A set of members and its share. Messages that were sent one after another mostly have the same complaint set, so the last one that was
@@ -41,8 +35,8 @@ fn with_enough(set: u64, o: u64, against: u64, r: u32, count: u64) -> u64
     requires { o < 64 }
     ensures { result ≡ cond (leb (r + 1) against && ltb count 255) (mark_of set o) set }
 {
-    let enough = (r as u64 + 1 <= against) & (count < 255);
-    set | ((enough as u64) << o)
+    let enough = (u64::from(r) + 1 <= against) & (count < 255);
+    set | (u64::from(enough) << o)
 }
 
 // Those of the n messages after p that enough members complain of, a bit for each; some set of members has been weighed already.
@@ -58,14 +52,12 @@ pub(crate) fn enough_among(
     requires { (length shares.now ≤ 64) × (weighed.share ≡ share_of shares.now (is_marked weighed.members)) × (p ≤ 1000000000000) × (n ≤ 64) }
     ensures { result ≡ set_below n (enough_against shares.now r counts.now complaints.now p) }
 {
-    let mut set: u64 = 0;
+    let mut set = 0;
     let mut last = weighed;
-    let mut o: u64 = 0;
-    while o < n {
+    for o in 0..n {
         let at = ((p + o) % 64) as usize;
         last = weigh(shares, last, complaints[at]);
         set = with_enough(set, o, last.share, r, counts[at]);
-        o += 1;
     }
     set
 }

@@ -1,8 +1,9 @@
 // Taking a report: it is stored, the point is worked out, collected entries are emptied, and complaints are heard.
 ghost use Rattle.std.specs.Prelude.{◌≡◌, ◌≤◌, ◌<◌};
 ghost use Rattle.marks.specs.Held.{highest_of};
-ghost use Rattle.judging.specs.Complaints.{entries_after, complaints_after, complained_entry, taken_of, Taking};
+ghost use Rattle.judging.specs.Complaints.{complaints_after, complained_entry, taken_of, Taking};
 
+use crate::stepped::entries_after;
 use downstream::{Downstream, Entry, Report, numbers_of, point_from};
 
 // What a report says, as every entry's step reads it: who reports what, the highest message that it holds, and whether the member repeats
@@ -22,12 +23,12 @@ fn complaints_after(h: Hearing, p: u64, k: u64, bits: u64) -> u64
     ensures { result ≡ complaints_after h.member h.number h.mask h.again p k bits }
 {
     if marks::holds(h.number, h.mask, k) {
-        return marks::unmark(bits, h.member as u64);
+        return marks::unmark(bits, u64::from(h.member));
     }
     let gap = k < h.highest;
     let repeat = h.again & (k == h.number + 1) & (h.number == p);
     if gap | repeat {
-        return marks::mark(bits, h.member as u64);
+        return marks::mark(bits, u64::from(h.member));
     }
     bits
 }
@@ -44,24 +45,6 @@ fn complained(h: Hearing, p: u64, o: u64, e: Entry) -> Entry
     }
 }
 
-// The entries of the n messages after p, each with its complaints heard; every other entry is empty.
-fn complained_entries(h: Hearing, p: u64, n: u64, entries: [Entry; 64]) -> [Entry; 64]
-    requires { (h.highest ≡ highest_of h.number h.mask) × (h.number ≤ 1000000000000) × (p ≤ 1000000000000) × (n ≤ 64) }
-    ensures { result ≡ entries_after (complained_entry h.member h.number h.mask h.again p) p n entries }
-{
-    let mut next = [Entry {
-        count: 0,
-        complaints: 0,
-    }; 64];
-    let mut o: u64 = 0;
-    while o < n {
-        let at = ((p + o) % 64) as usize;
-        next[at] = complained(h, p, o, entries[at]);
-        o += 1;
-    }
-    next
-}
-
 // The report of member i taken: stored, the point worked out, collected entries emptied, complaints heard.
 // inner: for the report step, which has judged the report.
 pub fn taken(d: Downstream, s: u64, i: u32, c: u64, mask: u64) -> Downstream
@@ -69,16 +52,14 @@ pub fn taken(d: Downstream, s: u64, i: u32, c: u64, mask: u64) -> Downstream
     ensures { result ≡ taken_of d s i c mask }
 {
     let at = i as usize;
+    let former = d.reports[at];
     let mut reports = d.reports;
-    let former = reports[at];
     reports[at] = Report {
         number: c,
         mask,
         heard: true,
     };
-    let cluster = d.cluster;
-    let numbers = numbers_of(reports);
-    let p = point_from(cluster, numbers);
+    let p = point_from(d.cluster, numbers_of(reports));
     let h = Hearing {
         member: i,
         number: c,
@@ -86,12 +67,11 @@ pub fn taken(d: Downstream, s: u64, i: u32, c: u64, mask: u64) -> Downstream
         highest: marks::highest(c, mask),
         again: former.heard & (former.number == c),
     };
-    let before = d.entries;
-    let entries = complained_entries(h, p, s - p, before);
+    let entries = entries_after(|o, e| complained(h, p, o, e), p, s - p, d.entries);
     Downstream {
-        cluster,
         point: p,
         reports,
         entries,
+        ..d
     }
 }

@@ -1,12 +1,12 @@
 // Judging the open messages: which verdicts are due, and what they change.
-ghost use Rattle.std.specs.Prelude.{◌≡◌, cond, ℕ, ◌≤◌, ◌+◌, length, get_or};
+ghost use Rattle.std.specs.Prelude.{◌≡◌, cond, ◌≤◌, ◌+◌, length, get_or};
 ghost use Rattle.marks.specs.Masks.{is_marked, set_below};
-ghost use Rattle.downstream.specs.State.{no_entry, place_after};
-ghost use Rattle.judging.specs.Complaints.{entries_after};
+ghost use Rattle.downstream.specs.State.{place_after};
 ghost use Rattle.judging.specs.Verdicts.{is_due, due_of, raised_entry, judged_of, Judging};
 
 use crate::against::{Weighed, complainers, enough_among};
 use crate::lost::lost_among;
+use crate::stepped::entries_after;
 use downstream::{Downstream, Entry, complaints_of, counts_of, fill_held, masks_of, numbers_of};
 
 // Those of the n messages after p that are due, a bit for each. The cheap questions come first: whether enough members complain of anything
@@ -28,7 +28,7 @@ pub fn due_among(
 {
     let any = complainers(complaints);
     let against = shares::share(shares, any);
-    if against <= r as u64 {
+    if against <= u64::from(r) {
         return 0;
     }
     let weighed = Weighed {
@@ -51,25 +51,17 @@ pub fn due_set(d: Downstream, s: u64) -> u64
     requires { Judging d s }
     ensures { result ≡ due_of d s }
 {
-    let p = d.point;
     let n = d.cluster.members as usize;
-    let shares = d.cluster.shares;
-    let reports = d.reports;
-    let numbers = numbers_of(reports);
-    let masks = masks_of(reports);
-    let entries = d.entries;
-    let counts = counts_of(entries);
-    let complaints = complaints_of(entries);
     due_among(
-        &shares[..n],
+        &d.cluster.shares[..n],
         d.cluster.u,
         d.cluster.r,
-        &numbers,
-        &masks,
-        &counts,
-        &complaints,
-        p,
-        s - p,
+        &numbers_of(d.reports),
+        &masks_of(d.reports),
+        &counts_of(d.entries),
+        &complaints_of(d.entries),
+        d.point,
+        s - d.point,
     )
 }
 
@@ -87,38 +79,12 @@ fn raised(due: u64, o: u64, e: Entry) -> Entry
     e
 }
 
-fn raised_entries(due: u64, p: u64, n: u64, entries: [Entry; 64]) -> [Entry; 64]
-    requires { (p ≤ 1000000000000) × (n ≤ 64) × ((j : ℕ) → (get_or entries j no_entry).count ≤ 255) }
-    ensures { result ≡ entries_after (λ o e. cond (is_marked due o) (raised_entry e) e) p n entries }
-{
-    let mut next = [Entry {
-        count: 0,
-        complaints: 0,
-    }; 64];
-    let mut o: u64 = 0;
-    while o < n {
-        let at = ((p + o) % 64) as usize;
-        next[at] = raised(due, o, entries[at]);
-        o += 1;
-    }
-    next
-}
-
 // The state after the verdicts on the messages up to S, those that are due being known.
 // inner: for the report step, which has judged the report.
 pub fn judged(d: Downstream, s: u64, due: u64) -> Downstream
     requires { (Judging d s) × (due ≡ due_of d s) }
     ensures { result ≡ judged_of d s }
 {
-    let cluster = d.cluster;
-    let point = d.point;
-    let reports = d.reports;
-    let before = d.entries;
-    let entries = raised_entries(due, point, s - point, before);
-    Downstream {
-        cluster,
-        point,
-        reports,
-        entries,
-    }
+    let entries = entries_after(|o, e| raised(due, o, e), d.point, s - d.point, d.entries);
+    Downstream { entries, ..d }
 }

@@ -6,6 +6,7 @@ mod complaints;
 mod due;
 mod lost;
 mod reports;
+mod stepped;
 
 pub use complaints::{Hearing, taken};
 pub use due::{due_among, due_set, judged};

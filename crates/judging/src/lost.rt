@@ -12,7 +12,7 @@ use downstream::{changes, steady_until};
 fn with_lost(set: u64, enough: u64, from: u64, to: u64, share: u64, u: u32) -> u64
     ensures { result ≡ cond (leb share u) (bit_or set (among_of enough from to)) set }
 {
-    if share <= u as u64 {
+    if share <= u64::from(u) {
         return set | marks::among(enough, from, to);
     }
     set
@@ -25,8 +25,9 @@ pub(crate) fn lost_among(shares: &[u32], u: u32, rows: &[u64], enough: u64, n: u
     ensures { result ≡ set_below n (is_lost shares.now u rows.now enough) }
 {
     let changing = changes(rows);
-    let mut set: u64 = 0;
-    let mut o: u64 = 0;
+    let mut set = 0;
+    let mut o = 0;
+    // From change to change, not by one.
     while o < n {
         let share = shares::marked_share(shares, rows, o);
         let next = steady_until(changing, o, n);

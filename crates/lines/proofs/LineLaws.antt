@@ -6,7 +6,7 @@ use native.Mathlib.Omega.{arith}
 use lib.ListN.{length, set, length-append}
 use mir.Val.{Fits}
 use mir.Syntax.{w64}
-use Rattle.deal.specs.declared.pairs.PairAnswer.{PairAnswer}
+use Rattle.deal.specs.Pairs.{PairAnswer}
 use Rattle.circle.specs.Positions.{resend_from}
 use Rattle.circle.specs.declared.walk.Position.{Position}
 use Rattle.circle.specs.declared.walk.Resend.{Resend}
@@ -106,13 +106,13 @@ pub head_end : (p : PairAnswer) (at r : ℕ) → at ≡ 0 + length (bytes_of "re
 head_end p at r h k = both_end (header_line ++ copy_line p) (bytes_of "resend from to run\n") (line_of 0 p.sender p.receiver 0) (head_parts p) at h r k
 
 -- ---- the line of a resend that starts at a position
-module _ (n : ℕ) (pos : Position) (z : Resend) (e : z ≡ resend_from pos) where
-  step_is : line_of n z.sender z.receiver z.run ≡ step_line (resend_from pos) n
+module _ (n : ℕ) (pos : Position) (z : Resend) (e : z ≡ resend_from pos) (from to : ℕ) (f : from ≡ z.sender) (g : to ≡ z.receiver) where
+  step_is : line_of n from to z.run ≡ step_line (resend_from pos) n
   unfolding step_line
-  step_is = rw e refl
+  step_is = rw (f, g, e) refl
 
-  pub step_end : (at r : ℕ) → r ≡ at + length (line_of n z.sender z.receiver z.run) → r ≡ at + length (step_line (resend_from pos) n)
+  pub step_end : (at r : ℕ) → r ≡ at + length (line_of n from to z.run) → r ≡ at + length (step_line (resend_from pos) n)
   step_end at r h = rw step_is at h
 
-  pub step_put : (at : ℕ) (o p : List ℕ) → p ≡ put at (line_of n z.sender z.receiver z.run) o → p ≡ put at (step_line (resend_from pos) n) o
+  pub step_put : (at : ℕ) (o p : List ℕ) → p ≡ put at (line_of n from to z.run) o → p ≡ put at (step_line (resend_from pos) n) o
   step_put at o p h = rw step_is at h

@@ -7,7 +7,7 @@ use native.Mathlib.Omega.{arith}
 use lib.Dec.{lit<}
 use lib.ListN.{length, length-append}
 use Rattle.basics.specs.Sums.{join_below}
-use Rattle.deal.specs.declared.pairs.PairAnswer.{PairAnswer}
+use Rattle.deal.specs.Pairs.{PairAnswer}
 use Rattle.basics.proofs.JoinLaws.{length_join_suc}
 use Rattle.circle.specs.Positions.{Sized, resend_of, resend_from}
 use Rattle.circle.specs.declared.walk.Position.{Position}
@@ -65,11 +65,11 @@ pub line_room : (n from to run at : ℕ) (o : List ℕ) → n < 1_000 → from <
 line_room n from to run at o a b c d room = omega (arith, line_few n from to run a b c d)
 
 module _ (z : Resend) (pos : Position) (e : z ≡ resend_from pos) (h : Short (resend_from pos)) where
-  pub sender_short : z.sender < 100
-  sender_short = rw e h.short_sender
+  pub sender_short : (x : ℕ) → x ≡ z.sender → x < 100
+  sender_short x q = rw (q, e) h.short_sender
 
-  pub receiver_short : z.receiver < 100
-  receiver_short = rw e h.short_receiver
+  pub receiver_short : (x : ℕ) → x ≡ z.receiver → x < 100
+  receiver_short x q = rw (q, e) h.short_receiver
 
   pub run_short : z.run < 10_000_000_000_000_000
   run_short = rw e h.short_run

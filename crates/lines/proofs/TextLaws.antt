@@ -1,14 +1,15 @@
 -- Decimal digits and text put into an output: lengths, and one text behind another. Assumes nothing.
 use mathlib.Core.Path.{◌≡◌, ap, ap₂, sym, ◌∙◌}
 use mathlib.Core.List.{List, [], ◌∷◌, ◌++◌, append_assoc}
-use Prim.Native.Nat.{ℕ, zero, suc, ◌+◌, ◌/◌, ◌^◌, ◌<◌, ◌≤◌}
+use Prim.Native.Nat.{ℕ, zero, suc, ◌+◌, ◌-◌, ◌/◌, ◌^◌, ◌<◌, ◌≤◌}
 use native.Mathlib.Nat.{pow-suc}
 use native.Mathlib.Numerals.{add-one}
 use native.Mathlib.Omega.{arith}
 use lib.Dec.{ltb}
 use lib.ListN.{length, take, drop, set, get_or, length-append}
-use lib.Seq.{drop-cons, set_at, set_split, length-take-le, take_at, drop-append-add, drop-drop, take_all, paste, paste-zero, paste-suc}
+use lib.Seq.{drop-cons, set_at, set_split, length-take-le, take_at, drop-append-add, drop-drop}
 use borrow.Author.Tests.{lt-ltb}
+use borrow.Rule.Slice.PartMut.{put_mid}
 use Rattle.basics.proofs.BoolLaws.{either}
 use Rattle.lines.specs.Text.{digits_in, put}
 
@@ -61,15 +62,7 @@ put_put at a b o h =
 pub put_next : (at n : ℕ) (a b o p q : List ℕ) → n ≡ at + length a → p ≡ put at a o → q ≡ put n b p → at + (length a + length b) ≤ length o → q ≡ put at (a ++ b) o
 put_next at n a b o p q e u v h = v ∙ ap₂ (λ (k : ℕ) (l : List ℕ). put k b l) e u ∙ put_put at a b o h
 
--- ---- the copy of bytes, one after another
-pub bytes_start : (at : ℕ) (bs o : List ℕ) → o ≡ paste o at bs 0
-bytes_start at bs o = paste-zero o at bs
-
-pub bytes_turn : (at i : ℕ) (bs o l : List ℕ) → l ≡ paste o at bs i → at + length bs ≤ length o → i < length bs → set l (at + i) (get_or bs i 0) ≡ paste o at bs (i + 1)
-bytes_turn at i bs o l e h k = rw (e, add-one) (paste-suc o at bs i 0 (omega arith) k)
-
-pub bytes_done : (at i : ℕ) (bs o l : List ℕ) → l ≡ paste o at bs i → i ≤ length bs → length bs ≤ i → l ≡ put at bs o
+-- ---- bytes copied into the part of an output that is as long
+pub bytes_put : (at : ℕ) (bs o l : List ℕ) → l ≡ bs → put_mid at (at + length bs - at) o l ≡ put at bs o
 unfolding put
-bytes_done at i bs o l e a b =
-    let z : i ≡ length bs = omega arith in
-    e ∙ ap (λ (k : ℕ). paste o at bs k) z ∙ ap (λ (t : List ℕ). take at o ++ t ++ drop (at + length bs) o) (take_all (length bs) bs (omega arith))
+bytes_put at bs o l e = let n : at + length bs - at ≡ length bs = omega arith in rw (e, n, drop-drop) (sym (append_assoc (take at o) bs (drop (at + length bs) o)))

@@ -41,7 +41,7 @@ module _ (ss rs : List ℕ) (i at : ℕ) (o : List ℕ) where
 
   module _ (n to : ℕ) (t : to ≡ at + length (walk_lines ss rs i (n - 1))) (a : Sized ss) (b : Sized rs) (some : 1 ≤ n) where
     -- 27 bytes for each line that is to come
-    pub walk_room : (last : ℕ) (p : List ℕ) → n ≤ last → last < 1_000 → at + 27 * last ≤ length o → length p ≡ length o → to + 27 ≤ length p
+    pub walk_room : (last : ℕ) (p : List ℕ) → n < last + 1 → last < 1_000 → at + 27 * last ≤ length o → length p ≡ length o → to + 27 ≤ length p
     walk_room last p more few room same = omega (arith, walk_few ss rs a b i (n - 1) (omega arith))
 
     module _ (pos : Position) (e : pos ≡ position_of ss rs i n) where
@@ -51,14 +51,14 @@ module _ (ss rs : List ℕ) (i at : ℕ) (o : List ℕ) where
       pub walk_turn_end : (r : ℕ) → r ≡ to + length (step_line (resend_from pos) n) → r ≡ at + length (walk_lines ss rs i (n + 1 - 1))
       walk_turn_end r f = rw (walk_more ss rs i n some, length-append) (omega (arith, ap length line_is))
 
-      pub walk_turn : (last : ℕ) (p q : List ℕ) → q ≡ put to (step_line (resend_from pos) n) p → p ≡ put at (walk_lines ss rs i (n - 1)) o → last < 1_000 → n ≤ last → at + 27 * last ≤ length o
+      pub walk_turn : (last : ℕ) (p q : List ℕ) → q ≡ put to (step_line (resend_from pos) n) p → p ≡ put at (walk_lines ss rs i (n - 1)) o → last < 1_000 → n < last + 1 → at + 27 * last ≤ length o
           → q ≡ put at (walk_lines ss rs i (n + 1 - 1)) o
       walk_turn last p q v u few more room =
           put_next at to (walk_lines ss rs i (n - 1)) (step_line (resend_from pos) n) o p q t u v
           (omega (arith, ap length line_is, step_few ss rs a b i n (omega arith), walk_room last o more few room refl))
           ∙ ap (λ (l : List ℕ). put at l o) (ap (λ (l : List ℕ). walk_lines ss rs i (n - 1) ++ l) line_is ∙ sym (walk_more ss rs i n some))
 
-  module _ (n to last : ℕ) (p : List ℕ) (l : n ≤ last + 1) (m : last < n) where
+  module _ (n to last : ℕ) (p : List ℕ) (l : 1 ≤ last + 1 → n ≤ last + 1) (m : last + 1 ≤ n) where
     pub walk_done_end : to ≡ at + length (walk_lines ss rs i (n - 1)) → to ≡ at + length (walk_lines ss rs i last)
     walk_done_end t = let e : n - 1 ≡ last = omega arith in rw e at t
 

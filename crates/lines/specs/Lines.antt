@@ -1,7 +1,7 @@
 -- The lines of a plan. Assumes nothing.
 use Rattle.std.specs.Prelude.{List, ◌++◌, ℕ, ◌+◌, ◌-◌, ◌<◌, length}
 use Rattle.basics.specs.Sums.{join_below}
-use Rattle.deal.specs.declared.pairs.PairAnswer.{PairAnswer}
+use Rattle.deal.specs.Pairs.{PairAnswer}
 use Rattle.circle.specs.Positions.{resend_of}
 use Rattle.circle.specs.declared.walk.Resend.{Resend}
 use Rattle.lines.specs.Words.{bytes_of}

@@ -1,5 +1,6 @@
 // Decimal digits, written into a lent output from a place on. Most numbers of a plan are members or resends, of one digit or two; the
-// digits of a run are put four at a time.
+// digits of a run are put four at a time. `write!` promises its text only where it returns `Ok`, and that it does cannot be shown, while
+// what `put_refused`, `put_head` and `put_resends` put is promised always.
 ghost use Rattle.std.specs.Prelude.{◌≡◌, ◌+◌, ◌<◌, ◌≤◌, length};
 ghost use Rattle.lines.specs.Text.{digits_of, pair_of, four_of, put};
 

@@ -1,4 +1,5 @@
-// Text, written into a lent output from a place on. Each function says where its text ends.
+// Text, written into a lent output from a place on. Each function says where its text ends. The place goes beside the output: a struct of
+// both would hold a `&mut`, and each function would have to promise besides that it keeps that one.
 ghost use Rattle.std.specs.Prelude.{◌≡◌, ◌+◌, ◌≤◌, length};
 ghost use Rattle.lines.specs.Text.{field_of, line_of, put};
 
@@ -10,12 +11,9 @@ pub fn put_bytes(bytes: &[u8], out: &mut [u8], at: usize) -> usize
     requires { at + length bytes.now ≤ length out.old }
     ensures { (result ≡ at + length bytes.now) × (out.new ≡ put at bytes.now out.old) }
 {
-    let mut i = 0;
-    while i < bytes.len() {
-        out[at + i] = bytes[i];
-        i += 1;
-    }
-    at + i
+    let end = at + bytes.len();
+    out[at..end].copy_from_slice(bytes);
+    end
 }
 
 // A number and the byte that ends it.

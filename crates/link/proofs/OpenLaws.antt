@@ -4,8 +4,7 @@ use mathlib.Core.List.{List}
 use Prim.Native.Nat.{ℕ}
 use Rattle.deal.specs.Pairs.{pair_refusal}
 use Rattle.window.specs.declared.state.Window.{Window}
-use Rattle.window.specs.declared.opening.OpenAnswer.{OpenAnswer}
-use Rattle.window.specs.Opening.{cluster_from, window_from, no_window, open_of}
+use Rattle.window.specs.Opening.{cluster_from, window_from, no_window, open_of, OpenAnswer}
 use Rattle.window.proofs.OpenLaws.{open_refused, open_told}
 use Rattle.words.specs.Put.{words_of}
 

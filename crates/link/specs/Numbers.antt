@@ -1,7 +1,7 @@
 -- Answers of several numbers as the places of a lent array. Assumes nothing.
 use Rattle.std.specs.Prelude.{List, [], ◌∷◌, ℕ}
-use Rattle.deal.specs.declared.pairs.PairAnswer.{PairAnswer}
-use Rattle.resend.specs.declared.pairs.ResendAnswer.{ResendAnswer}
+use Rattle.deal.specs.Pairs.{PairAnswer}
+use Rattle.resend.specs.Resends.{ResendAnswer}
 use Rattle.records.specs.Answers.{Told}
 
 abbrev pub pair_numbers : PairAnswer → List ℕ

@@ -10,7 +10,7 @@ ghost use Rattle.link.specs.Numbers.{pair_numbers, resend_numbers};
 pub extern "C" fn havdorlek_counts(shares: &[u32], u: u32, r: u32, q: u32, out: &mut [u32]) -> u32
     ensures { (result ≡ counts_refusal shares.now u r q (length out.old)) × (out.new ≡ counts_out shares.now u r q out.old) }
 {
-    hamilton::counts(shares, u, r, q, out)
+    basics::outcome_number(hamilton::counts(shares, u, r, q, out))
 }
 
 // The first copy's sender and receiver.
@@ -28,9 +28,16 @@ pub extern "C" fn havdorlek_first_pair(
 ) -> u32
     ensures { (result ≡ (first_pair_of ss.now su sr rs.now ru rr q k).refusal) × (answer.new ≡ pair_numbers (first_pair_of ss.now su sr rs.now ru rr q k)) }
 {
-    let a = deal::first_pair(ss, su, sr, rs, ru, rr, q, k);
-    *answer = [a.sender as u64, a.receiver as u64];
-    a.refusal
+    match deal::first_pair(ss, su, sr, rs, ru, rr, q, k) {
+        Ok(pair) => {
+            *answer = [u64::from(pair.sender), u64::from(pair.receiver)];
+            0
+        }
+        Err(refusal) => {
+            *answer = [0, 0];
+            refusal.number()
+        }
+    }
 }
 
 // The sender, the receiver and the run of resend n.
@@ -49,7 +56,18 @@ pub extern "C" fn havdorlek_resend_pair(
 ) -> u32
     ensures { (result ≡ (resend_pair_of ss.now su sr rs.now ru rr q k n).refusal) × (answer.new ≡ resend_numbers (resend_pair_of ss.now su sr rs.now ru rr q k n)) }
 {
-    let a = resend::resend_pair(ss, su, sr, rs, ru, rr, q, k, n);
-    *answer = [a.sender as u64, a.receiver as u64, a.run];
-    a.refusal
+    match resend::resend_pair(ss, su, sr, rs, ru, rr, q, k, n) {
+        Ok(resend) => {
+            *answer = [
+                u64::from(resend.sender),
+                u64::from(resend.receiver),
+                resend.run,
+            ];
+            0
+        }
+        Err(refusal) => {
+            *answer = [0, 0, 0];
+            refusal.number()
+        }
+    }
 }

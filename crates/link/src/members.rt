@@ -24,10 +24,13 @@ pub extern "C" fn havdorlek_arrive(holdings: &mut [u64; 2], k: u64) -> u32
         number: holdings[0],
         mask: holdings[1],
     };
-    let a = holdings::arrive(h, k);
-    let next = a.holdings;
-    *holdings = [next.number, next.mask];
-    a.refusal
+    match holdings::arrive(h, k) {
+        Ok(next) => {
+            *holdings = [next.number, next.mask];
+            0
+        }
+        Err(refusal) => refusal.number(),
+    }
 }
 
 // The member's report: the number and the mask.
@@ -39,7 +42,14 @@ pub extern "C" fn havdorlek_receiver_report(holdings: &[u64; 2], answer: &mut [u
         number: holdings[0],
         mask: holdings[1],
     };
-    let a = holdings::report(h);
-    *answer = [a.number, a.mask];
-    a.refusal
+    match holdings::report(h) {
+        Ok(report) => {
+            *answer = [report.number, report.mask];
+            0
+        }
+        Err(refusal) => {
+            *answer = [0, 0];
+            refusal.number()
+        }
+    }
 }

@@ -4,6 +4,8 @@ ghost use Rattle.window.specs.Opening.{open_of};
 ghost use Rattle.words.specs.Put.{words_of};
 ghost use Rattle.link.specs.Windows.{judge_number, send_number, send_words, report_number, report_verdicts, report_words, report_bytes};
 
+use basics::Refusal;
+
 // The state of a window that is opened; of zeros where the opening is refused.
 #[unsafe(no_mangle)]
 pub extern "C" fn havdorlek_open(
@@ -19,12 +21,13 @@ pub extern "C" fn havdorlek_open(
     ensures { (result ≡ (open_of ss.now su sr rs.now ru rr q).refusal) × (window.new ≡ words_of (open_of ss.now su sr rs.now ru rr q).window) }
 {
     words::put_none(window);
-    let refusal = deal::pair_refusal(ss, su, sr, rs, ru, rr, q);
-    if refusal != 0 {
-        return refusal;
+    match deal::pair_refusal(ss, su, sr, rs, ru, rr, q) {
+        Ok(()) => {
+            words::put_opened(ss, su, sr, rs, ru, rr, q, window);
+            0
+        }
+        Err(refusal) => refusal.number(),
     }
-    words::put_opened(ss, su, sr, rs, ru, rr, q, window);
-    0
 }
 
 // Whether a well-formed state stands in the words: 0 or 17.
@@ -32,7 +35,11 @@ pub extern "C" fn havdorlek_open(
 pub extern "C" fn havdorlek_judge(window: &[u64; 457]) -> u32
     ensures { result ≡ judge_number window.now }
 {
-    if words::formed(window) { 0 } else { 17 }
+    if words::formed(window) {
+        0
+    } else {
+        Refusal::IllFormed.number()
+    }
 }
 
 // Sends message k.
@@ -41,14 +48,15 @@ pub extern "C" fn havdorlek_send(window: &mut [u64; 457], k: u64) -> u32
     ensures { (result ≡ send_number window.old k) × (window.new ≡ send_words window.old k) }
 {
     if !words::formed(window) {
-        return 17;
+        return Refusal::IllFormed.number();
     }
-    let refusal = window::next_refusal(window[135], window[136], k);
-    if refusal != 0 {
-        return refusal;
+    match window::next_refusal(window[135], window[136], k) {
+        Ok(()) => {
+            words::put_sent(k, window);
+            0
+        }
+        Err(refusal) => refusal.number(),
     }
-    words::put_sent(k, window);
-    0
 }
 
 // Takes a report: the verdicts into the output, how many into the answer.
@@ -65,14 +73,17 @@ pub extern "C" fn havdorlek_report(
 {
     if !words::formed(window) {
         *answer = [0];
-        return 17;
+        return Refusal::IllFormed.number();
     }
-    let refusal = steps::report_refusal(window, member, number, mask, out.len());
-    if refusal != 0 {
-        *answer = [0];
-        return refusal;
+    match steps::report_refusal(window, member, number, mask, out.len()) {
+        Ok(()) => {
+            let verdicts = steps::take_report(window, member, number, mask, out);
+            *answer = [u64::from(verdicts)];
+            0
+        }
+        Err(refusal) => {
+            *answer = [0];
+            refusal.number()
+        }
     }
-    let verdicts = steps::take_report(window, member, number, mask, out);
-    *answer = [verdicts as u64];
-    0
 }

@@ -5,4 +5,5 @@ pub mod HeldLaws
 pub mod SetLaws
 pub mod FirstLaws
 pub mod AfterLaws
+pub mod GatheredLaws
 pub mod Unique

@@ -8,6 +8,7 @@ use lib.Count.{count_trailing_zeros, count_leading_zeros, trailing_le}
 use lib.Dec.{leb, eqb, leb-suc-suc, leb-suc-zero, eqb-suc-zero}
 use borrow.Author.Tests.{le-leb, eq-eqb}
 use mir.Val.{Fits}
+use Rattle.std.specs.Int.{trailing_ones}
 use mir.Syntax.{w64}
 use Rattle.basics.proofs.BoolLaws.{either, no_both}
 use Rattle.marks.specs.Masks.{is_marked, run_in, run_of, reach_in, reach_of}
@@ -59,12 +60,12 @@ pub run_end : (m : ℕ) → run_of m < 64 → is_marked m (run_of m) ≡ false
 unfolding run_of
 run_end m l = run_in_end 64 m l
 
-pub run_told : (m : ℕ) → Fits w64 m → count_trailing_zeros 64 (18446744073709551615 - m) ≡ run_of m
+pub run_told : (m : ℕ) → Fits w64 m → trailing_ones w64 m ≡ run_of m
 unfolding run_of
 run_told m f = run_is 64 m f.fits
 
-pub run_small : (m : ℕ) → count_trailing_zeros 64 m ≤ 64
-run_small m = trailing_le 64 m
+pub run_small : (m : ℕ) → trailing_ones w64 m ≤ 64
+run_small m = trailing_le 64 (18446744073709551615 - m)
 
 -- ---- the reach
 reach_is : (n m : ℕ) → m < 2 ^ n → count_leading_zeros n m + reach_in n m ≡ n

@@ -1,9 +1,11 @@
 -- The contracts leave no choice: two results that meet one are equal. Assumes nothing.
 use mathlib.Core.Path.{◌≡◌}
 use mathlib.Core.Bool.{Bool}
+use mathlib.Core.List.{List}
 use Prim.Native.Nat.{ℕ, ◌/◌, ◌^◌, ◌≤◌}
 use Rattle.basics.proofs.Unique.{one_answer}
 use Rattle.marks.specs.Masks.{is_marked, mark_of, unmark_of, run_of, reach_of, is_subset, among_of}
+use Rattle.marks.specs.Gathered.{any_of}
 use Rattle.marks.specs.Held.{holds_of, none_above, held_after}
 
 pub one_is_marked : (mask b : ℕ) (r z : Bool) → r ≡ is_marked mask b → z ≡ is_marked mask b → r ≡ z
@@ -38,3 +40,6 @@ one_held_after p c mask r z e f = one_answer e f
 
 pub one_among : (mask from to r z : ℕ) → r ≡ among_of mask from to → z ≡ among_of mask from to → r ≡ z
 one_among mask from to r z e f = one_answer e f
+
+pub one_any : (sets : List ℕ) (r z : ℕ) → r ≡ any_of sets → z ≡ any_of sets → r ≡ z
+one_any sets r z e f = one_answer e f

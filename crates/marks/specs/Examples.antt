@@ -1,6 +1,7 @@
 -- Small worked examples of masks, by computation. Assumes nothing.
-use Rattle.std.specs.Prelude.{◌≡◌, refl, true, false}
+use Rattle.std.specs.Prelude.{◌≡◌, refl, true, false, [], ◌∷◌}
 use Rattle.marks.specs.Masks.{is_marked, with_mark, without_mark, run_in, run_of, reach_in, reach_of}
+use Rattle.marks.specs.Gathered.{any_of}
 use Rattle.marks.specs.Held.{holds_of, highest_of}
 
 -- Bit b speaks of message c + 1 + b: with c = 3 and bits 1 and 2 marked, messages 5 and 6 are held and 4 is not
@@ -28,3 +29,7 @@ marked_once = refl
 unmarked : without_mark 6 1 ≡ 4
 unfolding without_mark is_marked
 unmarked = refl
+
+gathered_once : any_of (6 ∷ 0 ∷ 12 ∷ []) ≡ 14
+unfolding any_of
+gathered_once = refl

@@ -17,6 +17,7 @@ pub fn holds(c: u64, mask: u64, k: u64) -> bool
 
 // The highest message held.
 // inner: near the end of 64 bits c and the mask's reach have no sum.
+#[tactic(auto, unfolding(crate::specs::Held::highest_of))]
 pub fn highest(c: u64, mask: u64) -> u64
     requires { c ≤ 1000000000000 }
     ensures { result ≡ highest_of c mask }
@@ -25,6 +26,7 @@ pub fn highest(c: u64, mask: u64) -> u64
 }
 
 // Whether nothing above s is held.
+#[tactic(auto, using(crate::proofs::HeldLaws::above_at_once, crate::proofs::HeldLaws::above_by_past))]
 pub fn none_above(c: u64, mask: u64, s: u64) -> bool
     ensures { result ≡ none_above c mask s }
 {
@@ -35,6 +37,7 @@ pub fn none_above(c: u64, mask: u64, s: u64) -> bool
 }
 
 // What is held of the 64 messages after p: bit o speaks of message p + 1 + o. No shift is made where c is 64 or more past p.
+#[tactic(auto, using(crate::proofs::AfterLaws::after_before, crate::proofs::AfterLaws::after_all_lem, crate::proofs::AfterLaws::after_among))]
 pub fn held_after(p: u64, c: u64, mask: u64) -> u64
     ensures { result ≡ held_after p c mask }
 {

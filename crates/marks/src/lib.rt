@@ -2,8 +2,10 @@
 // No shift by 64 or more can occur: each function that shifts has its own answer for what lies past the mask.
 #![tactic(auto)]
 
+mod gathered;
 mod held;
 mod masks;
 
+pub use gathered::any_of;
 pub use held::{held_after, highest, holds, none_above};
 pub use masks::{among, is_marked, is_subset, mark, past, reach, run, unmark};

@@ -14,7 +14,7 @@ use Rattle.basics.proofs.CheckLaws.{Numbered, checks_first, checks_later, first_
 use Rattle.shares.specs.Cluster.{Accepted}
 use Rattle.deal.specs.Pairs as deal
 use Rattle.basics.specs.Sums.{join_below}
-use Rattle.deal.specs.declared.pairs.PairAnswer.{PairAnswer}
+use Rattle.deal.specs.Pairs.{PairAnswer}
 use Rattle.deal.proofs.JudgeLaws.{pair_numbered, pair_quantum, sending_accepted, receiving_accepted}
 use Rattle.deal.proofs.DealIsWhole.{sender_is_a_member, receiver_is_a_member}
 use Rattle.circle.specs.Positions.{Sized, resend_of}

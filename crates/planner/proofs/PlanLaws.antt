@@ -7,8 +7,7 @@ use native.Mathlib.Omega.{arith}
 use lib.ListN.{length, take, drop, length-append}
 use lib.Seq.{length-take-le}
 use Rattle.basics.proofs.BoolLaws.{either}
-use Rattle.input.specs.Input.{is_built, build_of, shares_at, numbers_of}
-use Rattle.input.specs.declared.input.Build.{Build}
+use Rattle.input.specs.Input.{is_built, build_of, shares_at, numbers_of, Build}
 use Rattle.input.specs.declared.input.Numbers.{Numbers}
 use Rattle.input.proofs.BuildLaws.{cut}
 use Rattle.input.proofs.BuildIs.{built_as_told, senders_as_told, receivers_as_told}

@@ -2,7 +2,7 @@
 use Rattle.std.specs.Prelude.{cond, List, ◌++◌, ℕ, ◌+◌, ◌-◌, eqb, length}
 use Rattle.basics.specs.Sums.{join_below}
 use Rattle.deal.specs.Pairs as deal
-use Rattle.deal.specs.declared.pairs.PairAnswer.{PairAnswer}
+use Rattle.deal.specs.Pairs.{PairAnswer}
 use Rattle.resend.specs.Promise.{Asked}
 use Rattle.resend.specs.Resends.{sender_of, receiver_of, run_of}
 use Rattle.input.specs.Input.{is_built}

@@ -5,6 +5,7 @@ ghost use Rattle.lines.specs.Text.{put};
 ghost use Rattle.planner.specs.Asked.{asking, asked_with};
 ghost use Rattle.planner.specs.Plan.{asked_text, plan_text, text_room};
 
+use basics::Refusal;
 use input::Numbers;
 
 // The bytes that a text may need: `text_room` of the definitions.
@@ -18,13 +19,14 @@ fn put_asked(ss: &[u32], rs: &[u32], x: Numbers, out: &mut [u8]) -> usize
     requires { text_room ≤ length out.old }
     ensures { (result ≡ length (asked_text (asking ss.now rs.now x))) × (out.new ≡ put 0 (asked_text (asking ss.now rs.now x)) out.old) }
 {
-    let k = x.message as u64;
-    let first = deal::first_pair(ss, x.su, x.sr, rs, x.ru, x.rr, x.quantum, k);
-    if first.refusal != 0 {
-        return lines::put_refused(first.refusal, out);
+    let k = u64::from(x.message);
+    match deal::first_pair(ss, x.su, x.sr, rs, x.ru, x.rr, x.quantum, k) {
+        Err(refusal) => lines::put_refused(refusal.number(), out),
+        Ok(first) => {
+            let at = lines::put_head(first, out);
+            lines::put_resends(ss, rs, first.sender as usize, out, at)
+        }
     }
-    let at = lines::put_head(first, out);
-    lines::put_resends(ss, rs, first.sender as usize, out, at)
 }
 
 // The text for an input with a shares of kind 2 and b of kind 4.
@@ -44,9 +46,8 @@ fn put_built(s: &[u8], a: usize, b: usize, out: &mut [u8]) -> usize
 pub fn plan(input: &[u8], out: &mut [u8; ROOM]) -> usize
     ensures { (result ≡ length (plan_text input.now)) × (out.new ≡ plan_text input.now ++ drop (length (plan_text input.now)) out.old) }
 {
-    let build = input::build_of(input);
-    if !build.built {
-        return lines::put_refused(19, out);
+    match input::build_of(input) {
+        None => lines::put_refused(Refusal::BadlyBuilt.number(), out),
+        Some(build) => put_built(input, build.senders, build.receivers, out),
     }
-    put_built(input, build.senders, build.receivers, out)
 }

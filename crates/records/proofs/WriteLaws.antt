@@ -15,11 +15,7 @@ use Rattle.basics.proofs.BoolLaws.{told, and_true}
 use Rattle.basics.proofs.CheckLaws.{first_passed, later_passed}
 use Rattle.basics.proofs.PartLaws.{put_next, fill_next}
 use Rattle.records.specs.ByKind.{fields_kept}
-use Rattle.records.specs.Answers.{wrote_number, number_of}
 use Rattle.records.specs.Writing.{head_of, bytes_of, write_refusal, written_of}
-use Rattle.records.specs.declared.Refusal.{Refusal}
-use Rattle.records.specs.declared.Refusal.TheVariants.{WrongLength, WrongKind, NotZero, ShortOutput}
-use Rattle.records.specs.declared.WriteAnswer.TheVariants.{Written, Denied}
 
 -- ---- the bytes
 pub put_head : (k m n : ℕ) (l : List ℕ) → k < 256 → m < 256 → n ≡ 8 → l ≡ le_bytes n (m * 256 + k) → l ≡ head_of k m
@@ -56,40 +52,37 @@ module _ (k m n w : ℕ) where
 
 -- ---- the answer, and the output then
 module _ (k m n w : ℕ) (o : List ℕ) where
-  pub write_kind : 2 < k → wrote_number (Denied WrongKind) ≡ write_refusal k m n w (length o)
-  unfolding wrote_number number_of write_refusal first_failing
+  pub write_kind : 2 < k → 14 ≡ write_refusal k m n w (length o)
+  unfolding write_refusal first_failing
   write_kind h = simp (lt-leb k 2 h)
 
-  pub write_zero : (g : Bool) → k ≤ 2 → g ≡ fields_kept k m n w → g ≡ false → wrote_number (Denied NotZero) ≡ write_refusal k m n w (length o)
-  unfolding wrote_number number_of write_refusal first_failing
+  pub write_zero : (g : Bool) → k ≤ 2 → g ≡ fields_kept k m n w → g ≡ false → 15 ≡ write_refusal k m n w (length o)
+  unfolding write_refusal first_failing
   write_zero g h e f = simp (le-leb k 2 h, ← e, f)
 
-  pub write_short : k ≤ 2 → fields_kept k m n w ≡ true → length o < 24 → wrote_number (Denied ShortOutput) ≡ write_refusal k m n w (length o)
-  unfolding wrote_number number_of write_refusal first_failing
+  pub write_short : k ≤ 2 → fields_kept k m n w ≡ true → length o < 24 → 5 ≡ write_refusal k m n w (length o)
+  unfolding write_refusal first_failing
   write_short h f l = simp (le-leb k 2 h, f, lt-leb 24 (length o) l)
 
-  pub write_done : k ≤ 2 → fields_kept k m n w ≡ true → 24 ≤ length o → wrote_number Written ≡ write_refusal k m n w (length o)
-  unfolding wrote_number write_refusal first_failing
+  pub write_done : k ≤ 2 → fields_kept k m n w ≡ true → 24 ≤ length o → 0 ≡ write_refusal k m n w (length o)
+  unfolding write_refusal first_failing
   write_done h f l = simp (le-leb k 2 h, f, le-leb 24 (length o) l)
 
-  kept : (x : Refusal) → wrote_number (Denied x) ≡ write_refusal k m n w (length o) → o ≡ written_of k m n w o
-  unfolding wrote_number number_of written_of
-  kept WrongLength e = simp (← e)
-  kept WrongKind e = simp (← e)
-  kept NotZero e = simp (← e)
-  kept ShortOutput e = simp (← e)
+  kept : (x : ℕ) → (x ≡ 0 → ⊥) → x ≡ write_refusal k m n w (length o) → o ≡ written_of k m n w o
+  unfolding written_of
+  kept x z e = simp (← e, ne_eqb x 0 z)
 
   pub kept_kind : 2 < k → o ≡ written_of k m n w o
-  kept_kind h = kept WrongKind (write_kind h)
+  kept_kind h = kept 14 (λ z. omega arith) (write_kind h)
 
   pub kept_zero : (g : Bool) → k ≤ 2 → g ≡ fields_kept k m n w → g ≡ false → o ≡ written_of k m n w o
-  kept_zero g h e f = kept NotZero (write_zero g h e f)
+  kept_zero g h e f = kept 15 (λ z. omega arith) (write_zero g h e f)
 
   pub kept_short : k ≤ 2 → fields_kept k m n w ≡ true → length o < 24 → o ≡ written_of k m n w o
-  kept_short h f l = kept ShortOutput (write_short h f l)
+  kept_short h f l = kept 5 (λ z. omega arith) (write_short h f l)
 
   pub put_done : (p : List ℕ) → k ≤ 2 → fields_kept k m n w ≡ true → 24 ≤ length o → p ≡ bytes_of k m n w ++ drop 24 o → p ≡ written_of k m n w o
-  unfolding wrote_number written_of
+  unfolding written_of
   put_done p h f l q = simp (← write_done h f l) q
 
 pub ruleset writes = (fields_any, write_kind, write_zero, write_short, write_done, kept_kind, kept_zero, kept_short, put_done, told, not-true, not-false, rules)

@@ -15,23 +15,3 @@ pub enum Record {
     Arrival { member: u8, number: u64 },
     Private { kind: u8 },
 }
-
-#[derive(Clone, Copy)]
-pub enum Refusal {
-    WrongLength,
-    WrongKind,
-    NotZero,
-    ShortOutput,
-}
-
-#[derive(Clone, Copy)]
-pub enum ReadAnswer {
-    Is(Record),
-    Refused(Refusal),
-}
-
-#[derive(Clone, Copy)]
-pub enum WriteAnswer {
-    Written,
-    Denied(Refusal),
-}

@@ -9,7 +9,7 @@ use borrow.Author.Tests.{eq-eqb, ne_eqb, leb-true}
 use Rattle.basics.specs.Checks.{◌else◌, first_failing}
 use Rattle.basics.specs.Ranges.{is_message, is_resend}
 use Rattle.basics.proofs.BoolLaws.{and_left}
-use Rattle.basics.proofs.CheckLaws.{checks, checks_passed, checks_failed, checks_first, checks_later, first_passed, later_passed}
+use Rattle.basics.proofs.CheckLaws.{checks_passed, checks_failed, checks_first, checks_later, first_passed, later_passed}
 use Rattle.shares.specs.Cluster.{Accepted}
 use Rattle.hamilton.specs.Hamilton.{Dealable}
 use Rattle.deal.specs.Pairs as deal
@@ -18,8 +18,7 @@ use Rattle.deal.proofs.DealIsWhole.{sender_is_a_member}
 use Rattle.circle.specs.Positions.{Sized, resend_of}
 use Rattle.circle.specs.declared.walk.Resend.{Resend}
 use Rattle.circle.proofs.CircleLaws.{sized}
-use Rattle.resend.specs.declared.pairs.ResendAnswer.{ResendAnswer}
-use Rattle.resend.specs.Resends.{sender_of, receiver_of, run_of, number_checks, resend_refusal, no_resend, resend_pair_of}
+use Rattle.resend.specs.Resends.{sender_of, receiver_of, run_of, number_checks, resend_refusal, ResendAnswer, no_resend, resend_pair_of}
 
 -- ---- the judgement
 module _ (ss : List ℕ) (su sr : ℕ) (rs : List ℕ) (ru rr q k n m : ℕ) (e : m ≡ deal.pair_refusal ss su sr rs ru rr q) where
@@ -30,8 +29,6 @@ module _ (ss : List ℕ) (su sr : ℕ) (rs : List ℕ) (ru rr q k n m : ℕ) (e 
   pub resend_judged : (x : ℕ) → m ≡ 0 → x ≡ first_failing (number_checks k n) → x ≡ resend_refusal ss su sr rs ru rr q k n
   unfolding resend_refusal deal.pair_refusal
   resend_judged x z f = checks_passed (deal.pair_checks ss su sr rs ru rr q) (number_checks k n) (sym e ∙ z) f (pair_numbered ss su sr rs ru rr q)
-
-pub ruleset judged = (resend_clusters, resend_judged, checks)
 
 -- ---- accepted
 module _ (ss : List ℕ) (su sr : ℕ) (rs : List ℕ) (ru rr q k n : ℕ) (e : resend_refusal ss su sr rs ru rr q k n ≡ 0) where
@@ -83,5 +80,3 @@ module _ (ss : List ℕ) (su sr : ℕ) (rs : List ℕ) (ru rr q k n m : ℕ) (e 
           → ◌≡◌ {A = ResendAnswer} (record { refusal = 0; sender = r.sender; receiver = r.receiver; run = r.run }) (resend_pair_of ss su sr rs ru rr q k n)
       unfolding resend_pair_of sender_of receiver_of run_of resend_of
       resend_told r g = simp (← e, eq-eqb m 0 z) (rw (g, f) refl)
-
-pub ruleset answering = (deals, sends_sized, receives_sized, some_resend, first_is_a_member)

@@ -12,9 +12,8 @@ use Rattle.circle.specs.Divisor.{euclid, divisor_of, multiple_of}
 use Rattle.circle.specs.Stretches as stretches
 use Rattle.circle.specs.Circle as circle
 use Rattle.circle.specs.Examples.{three, five, millions}
-use Rattle.resend.specs.declared.pairs.ResendAnswer.{ResendAnswer}
 use Rattle.resend.specs.Resends as resends
-use Rattle.resend.specs.Resends.{resend_refusal, resend_pair_of, no_resend}
+use Rattle.resend.specs.Resends.{resend_refusal, ResendAnswer, resend_pair_of, no_resend}
 use Rattle.resend.specs.Promise.{Asked, resend, bound}
 
 -- an accepted resend: from which member, to which, and its run

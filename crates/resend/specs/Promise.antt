@@ -2,8 +2,7 @@
 use Rattle.std.specs.Prelude.{◌≡◌, Bool, true, false, ◌⊎◌, List, ℕ, ◌+◌, ◌-◌, ◌*◌, ◌≤◌, ◌<◌, length}
 use Rattle.basics.specs.Sums.{sum_below}
 use Rattle.circle.specs.Circle.{circle_units, factor_of}
-use Rattle.resend.specs.Resends.{resend_pair_of}
-use Rattle.resend.specs.declared.pairs.ResendAnswer.{ResendAnswer}
+use Rattle.resend.specs.Resends.{ResendAnswer, resend_pair_of}
 
 -- the two clusters' shares, u and r, the quantum and the message number, as the resend call takes them
 pub record Asked : Type 0 where

@@ -3,4 +3,4 @@
 
 mod pairs;
 
-pub use pairs::{ResendAnswer, resend_pair};
+pub use pairs::resend_pair;

@@ -1,15 +1,10 @@
 // Resend pairs for any two clusters, quantum, message and resend number.
 ghost use Rattle.std.specs.Prelude.{◌≡◌};
-ghost use Rattle.resend.specs.Resends.{resend_refusal, resend_pair_of};
+ghost use Rattle.basics.specs.Refusals.{outcome_number};
+ghost use Rattle.resend.specs.Resends.{resend_refusal, resend_pair_of, told};
 
-// A refusal and zeros, or 0, the resend's two ends and its run.
-#[derive(Clone, Copy)]
-pub struct ResendAnswer {
-    pub refusal: u32,
-    pub sender: u32,
-    pub receiver: u32,
-    pub run: u64,
-}
+use basics::Refusal;
+use circle::Resend;
 
 fn resend_refusal(
     ss: &[u32],
@@ -21,23 +16,20 @@ fn resend_refusal(
     q: u32,
     k: u64,
     n: u32,
-) -> u32
-    ensures { result ≡ resend_refusal ss.now su sr rs.now ru rr q k n }
+) -> Result<(), Refusal>
+    ensures { outcome_number result ≡ resend_refusal ss.now su sr rs.now ru rr q k n }
 {
-    let judged = deal::pair_refusal(ss, su, sr, rs, ru, rr, q);
-    if judged != 0 {
-        return judged;
-    }
+    deal::pair_refusal(ss, su, sr, rs, ru, rr, q)?;
     if !basics::is_message(k) {
-        return 6;
+        return Err(Refusal::Message);
     }
     if !basics::is_resend(n) {
-        return 7;
+        return Err(Refusal::Resend);
     }
-    0
+    Ok(())
 }
 
-// Resend n of message k.
+// Resend n of message k: its two ends and its run.
 pub fn resend_pair(
     ss: &[u32],
     su: u32,
@@ -48,24 +40,10 @@ pub fn resend_pair(
     q: u32,
     k: u64,
     n: u32,
-) -> ResendAnswer
-    ensures { result ≡ resend_pair_of ss.now su sr rs.now ru rr q k n }
+) -> Result<Resend, Refusal>
+    ensures { told result ≡ resend_pair_of ss.now su sr rs.now ru rr q k n }
 {
-    let refusal = resend_refusal(ss, su, sr, rs, ru, rr, q, k, n);
-    if refusal != 0 {
-        return ResendAnswer {
-            refusal,
-            sender: 0,
-            receiver: 0,
-            run: 0,
-        };
-    }
+    resend_refusal(ss, su, sr, rs, ru, rr, q, k, n)?;
     let first = deal::first_sender(ss, q, k) as usize;
-    let resend = circle::resend_at(ss, rs, first, n);
-    ResendAnswer {
-        refusal: 0,
-        sender: resend.sender,
-        receiver: resend.receiver,
-        run: resend.run,
-    }
+    Ok(circle::resend_at(ss, rs, first, n))
 }

@@ -3,91 +3,81 @@
 ghost use Rattle.std.specs.Prelude.{◌<◌, ◌≤◌, length};
 
 use crate::input;
+use crate::input::number_at;
 
-// How many numbers a group has: how often, and a byte; or how often, and a record's kind and two numbers.
-fn width(is_raw: bool) -> usize
-    ensures { (1 ≤ result) × (result ≤ 4) }
-{
-    if is_raw { 2 } else { 4 }
+// What a group of numbers asks for: how often, and a byte; or how often, and a record's kind and its two numbers.
+#[derive(Clone, Copy)]
+pub enum Unit {
+    Byte,
+    Record,
 }
 
-// Where the group starts that the unit x lies in, a byte or a record; 0 past the last.
-fn group_of(args: &[u64; 100], is_raw: bool, x: u64) -> usize
-    ensures { result < 100 }
-{
-    let mut at: usize = 1;
-    let mut rest = x;
-    while at < 100 {
-        let often = args[at];
-        if rest < often {
-            return at;
+// The lowest four bytes of a number, the lowest first.
+fn low_bytes(x: u64) -> [u8; 4] {
+    let [a, b, c, d, ..] = x.to_le_bytes();
+    [a, b, c, d]
+}
+
+// A record: kind, three zeros, and two numbers.
+fn record(group: &[u64]) -> [u8; 12] {
+    let kind = input::byte(number_at(group, 1));
+    let [a, b, c, d] = low_bytes(number_at(group, 2));
+    let [e, f, g, h] = low_bytes(number_at(group, 3));
+    [kind, 0, 0, 0, a, b, c, d, e, f, g, h]
+}
+
+impl Unit {
+    // How many numbers a group has.
+    fn width(self) -> usize
+        ensures { 0 < result }
+    {
+        match self {
+            Unit::Byte => 2,
+            Unit::Record => 4,
         }
-        rest -= often;
-        at += width(is_raw);
     }
-    0
-}
 
-// Byte b of a 32-bit number, the lowest first.
-fn byte_of(x: u64, b: usize) -> u8 {
-    if b == 0 {
-        return (x % 256) as u8;
+    // How many bytes of the input one has.
+    fn size(self) -> usize
+        ensures { 0 < result }
+    {
+        match self {
+            Unit::Byte => 1,
+            Unit::Record => 12,
+        }
     }
-    if b == 1 {
-        return (x / 256 % 256) as u8;
-    }
-    if b == 2 {
-        return (x / 65_536 % 256) as u8;
-    }
-    (x / 16_777_216 % 256) as u8
-}
 
-// Byte b of a record: kind, three zeros, and two numbers.
-fn record_byte(kind: u64, first: u64, second: u64, b: usize) -> u8 {
-    if b == 0 {
-        return input::byte(kind);
+    // The group of the one that byte i of the input belongs to; none past the last.
+    fn group_of(self, groups: &[u64], i: usize) -> Option<&[u64]> {
+        let mut rest = (i / self.size()) as u64;
+        for group in groups.chunks(self.width()) {
+            let often = number_at(group, 0);
+            if rest < often {
+                return Some(group);
+            }
+            rest -= often;
+        }
+        None
     }
-    if b < 4 {
-        return 0;
-    }
-    if b < 8 {
-        return byte_of(first, b - 4);
-    }
-    byte_of(second, b - 8)
-}
 
-// Byte i of the input, in the group that starts at a place.
-fn byte_at(args: &[u64; 100], is_raw: bool, at: usize, i: usize) -> u8
-    requires { at < 100 }
-{
-    let what = input::number_at(args, at + 1);
-    if is_raw {
-        return input::byte(what);
+    // Byte i of the input, by its group.
+    fn byte(self, group: &[u64], i: usize) -> u8 {
+        match self {
+            Unit::Byte => input::byte(number_at(group, 1)),
+            Unit::Record => record(group)[i % 12],
+        }
     }
-    record_byte(
-        what,
-        input::number_at(args, at + 2),
-        input::number_at(args, at + 3),
-        i % 12,
-    )
-}
-
-fn unit_of(is_raw: bool, i: usize) -> u64 {
-    if is_raw { i as u64 } else { (i / 12) as u64 }
 }
 
 // Fills the input from the groups, and answers how many bytes it has.
-pub fn fill(args: &[u64; 100], is_raw: bool, bytes: &mut [u8]) -> usize
+pub fn fill(unit: Unit, groups: &[u64], bytes: &mut [u8]) -> usize
     ensures { result ≤ length bytes.old }
 {
-    let mut i = 0;
-    while i < bytes.len() {
-        let at = group_of(args, is_raw, unit_of(is_raw, i));
-        if at == 0 {
+    for (i, byte) in bytes.iter_mut().enumerate() {
+        let Some(group) = unit.group_of(groups, i) else {
             return i;
-        }
-        bytes[i] = byte_at(args, is_raw, at, i);
-        i += 1;
+        };
+        *byte = unit.byte(group, i);
     }
-    i
+    bytes.len()
 }

@@ -1,37 +1,21 @@
 // The lines of the input.
-ghost use Rattle.std.specs.Prelude.{◌≡◌, ◌-◌, ◌≤◌, length, IfOk};
-ghost use Rattle.script.specs.Counts.{IsPrefixLen};
-
 use std::io;
-use std::io::Read;
+use std::io::Write;
 
-// Reads until the space is full or the input ends, and answers how many bytes it put at the start of the space. Where a read fails, what was
-// read before it stands there.
-pub fn read_full(from: &mut impl Read, space: &mut [u8]) -> io::Result<usize>
-    ensures count { IfOk result (λ n. IsPrefixLen n space.new) }
-    ensures same_length { length space.new ≡ length space.old }
+// Writes each line back and what `run` says to it after it, and stops at one that fails.
+pub fn run_each<W: Write, F: FnMut(&mut W, &[u8]) -> io::Result<()>>(
+    to: &mut W,
+    cases: &[u8],
+    mut run: F,
+) -> io::Result<()>
+    requires { F.IsAlwaysCallable run }
+    ensures { Unit {0} }
 {
-    let mut done = 0;
-    while done < space.len() {
-        let n = from.read(&mut space[done..])?;
-        if n == 0 {
-            break;
-        }
-        done += n;
+    for ended in cases.split_inclusive(|b| *b == b'\n') {
+        let line = ended.strip_suffix(b"\n").unwrap_or(ended);
+        to.write_all(line)?;
+        run(to, line)?;
+        to.write_all(b"\n")?;
     }
-    Ok(done)
-}
-
-// How many bytes the line has that starts at a place.
-pub fn line_length(cases: &[u8], start: usize) -> usize
-    ensures { result ≤ length cases.now - start }
-{
-    let mut end = start;
-    while end < cases.len() {
-        if cases[end] == b'\n' {
-            return end - start;
-        }
-        end += 1;
-    }
-    end - start
+    Ok(())
 }

@@ -1,7 +1,6 @@
 // An output of bytes that were each 7 before a call.
-ghost use Rattle.script.specs.Counts.{IsPrefixLen};
+ghost use Rattle.reading.specs.Counts.{IsPrefixLen};
 
-use crate::say;
 use std::io;
 use std::io::Write;
 
@@ -9,20 +8,12 @@ use std::io::Write;
 pub fn written(out: &[u8]) -> usize
     ensures { IsPrefixLen result out.now }
 {
-    let mut n = out.len();
-    while 0 < n {
-        if out[n - 1] != 7 {
-            return n;
-        }
-        n -= 1;
-    }
-    n
+    out.iter().rposition(|b| *b != 7).map_or(0, |last| last + 1)
 }
 
 // How many bytes at its end were left alone.
 pub fn say_kept(to: &mut impl Write, out: &[u8]) -> io::Result<()>
     ensures { Unit {0} }
 {
-    let n = written(out);
-    say::named(to, b"kept", (out.len() - n) as u64)
+    write!(to, " kept {}", out.len() - written(out))
 }

@@ -1,12 +1,13 @@
 // The two clusters that cases lend to calls.
-ghost use Rattle.std.specs.Prelude.{◌≡◌, ◌-◌, ◌≤◌, if◌then◌else◌, nat_eq};
+ghost use Rattle.std.specs.Prelude.{◌≡◌, ◌-◌, if◌then◌else◌, nat_le, take, []};
 
 use crate::input;
+use crate::input::Numbers;
 
-// A cluster as a case gives it, accepted or not.
+// A cluster as a case gives it, accepted or not: how many members, and a share for each.
 #[derive(Clone, Copy)]
 pub struct Side {
-    pub members: usize,
+    pub count: usize,
     pub u: u32,
     pub r: u32,
     pub shares: [u32; 100],
@@ -18,54 +19,41 @@ pub struct Sides {
     pub receiving: Side,
 }
 
-fn no_shares() -> [u32; 100] {
-    [0; 100]
-}
+impl Side {
+    // u r shares
+    pub fn of(args: &Numbers) -> Side
+        ensures { result.count ≡ args.now.count - 2 }
+    {
+        let mut shares = [0; 100];
+        for (share, number) in shares.iter_mut().zip(&args.at[3..]) {
+            *share = input::short(*number);
+        }
+        Side {
+            count: args.count.saturating_sub(2),
+            u: input::short(args.at[1]),
+            r: input::short(args.at[2]),
+            shares,
+        }
+    }
 
-// u, r and the shares.
-pub fn side_from(args: &[u64; 100], n: usize) -> Side
-    ensures { result.members ≡ n - 2 }
-{
-    let mut shares = no_shares();
-    input::copy_shares(args, 3, &mut shares);
-    Side {
-        members: input::less(n, 2),
-        u: input::short(args[1]),
-        r: input::short(args[2]),
-        shares,
+    // The members' shares: none where they are more than there are places.
+    pub fn members(&self) -> &[u32]
+        ensures { result.now ≡ (if nat_le self.now.count 100 then take self.now.count self.now.shares else []) }
+    {
+        self.shares.get(..self.count).unwrap_or(&[])
     }
 }
 
 // No members on either side.
 pub fn no_sides() -> Sides
-    ensures { (result.sending.members ≡ 0) × (result.receiving.members ≡ 0) }
+    ensures { (result.sending.count ≡ 0) × (result.receiving.count ≡ 0) }
 {
-    let args = input::no_numbers();
-    let none = side_from(&args, 0);
+    let none = Side::of(&Numbers {
+        count: 0,
+        at: [0; 100],
+    });
     Sides {
         sending: none,
         receiving: none,
     }
-}
-
-fn side_after(s: Side, set: bool, args: &[u64; 100], n: usize) -> Side
-    ensures { result.members ≡ (if set then n - 2 else s.members) }
-{
-    if set { side_from(args, n) } else { s }
-}
-
-// Which cluster a line sets: 0 the sending one, 1 the receiving one, another number none.
-pub fn side_named(line: &[u8]) -> usize
-    ensures { result ≤ 18 }
-{
-    input::place_of(line, b"sending receiving ")
-}
-
-// sending u r shares, receiving u r shares: the clusters that the next cases get, and no answer.
-pub fn sides_after(s: Sides, side: usize, args: &[u64; 100], n: usize) -> Sides
-    ensures { (result.sending.members ≡ (if nat_eq side 0 then n - 2 else s.sending.members)) × (result.receiving.members ≡ (if nat_eq side 1 then n - 2 else s.receiving.members)) }
-{
-    let sending = side_after(s.sending, side == 0, args, n);
-    let receiving = side_after(s.receiving, side == 1, args, n);
-    Sides { sending, receiving }
 }

@@ -14,14 +14,11 @@ pub struct Bench {
 
 // Nothing set yet: no members, and a window that was refused.
 pub(crate) fn empty() -> Bench {
-    let sides = no_sides();
-    let a = Window::open(&[], 0, 0, &[], 0, 0, 0);
-    let window = a.window;
-    let fresh = holdings::fresh();
+    let window = Window::open(&[], 0, 0, &[], 0, 0, 0).window;
     Bench {
-        sides,
+        sides: no_sides(),
         window,
         kept: window,
-        holdings: fresh,
+        holdings: holdings::fresh(),
     }
 }

@@ -1,60 +1,50 @@
 // The lines of the input, each a case or a remark.
 use crate::bench::Bench;
-use crate::{bench, members, windows, words};
-use script::lines::line_length;
-use script::sides::{side_named, sides_after};
-use script::{input, say};
+use crate::words::{Word, word_of};
+use crate::{bench, edits, members, show, windows};
+use script::input::{Numbers, short};
+use script::lines::run_each;
+use script::say;
+use script::sides::Side;
 use std::io;
 use std::io::Write;
-use window::Window;
 
-fn either(w: Window, other: Window, is_other: bool) -> Window {
-    if is_other { other } else { w }
-}
-
-// The bench after the line, whose answer is written. keep: the window is kept. back: the next cases get the window that was kept.
-fn bench_after(
-    to: &mut impl Write,
-    b: Bench,
-    line: &[u8],
-    args: &[u64; 100],
-    n: usize,
-) -> io::Result<Bench> {
-    let word = words::word_of(line);
-    windows::asked(to, b.window, word)?;
-    members::asked(to, b.holdings, word)?;
-    let sides = sides_after(b.sides, side_named(line), args, n);
-    let kept = either(b.kept, b.window, word == words::KEEP);
-    let before = either(b.window, b.kept, word == words::BACK);
-    let window = windows::after(to, before, b.sides, word, args)?;
-    let held = members::after(to, b.holdings, word, args)?;
-    Ok(Bench {
-        sides,
-        window,
-        kept,
-        holdings: held,
-    })
-}
-
-fn run_line(to: &mut impl Write, b: Bench, line: &[u8]) -> io::Result<Bench> {
-    let mut args = input::no_numbers();
-    let n = input::numbers(line, &mut args);
-    say::text(to, line)?;
-    let next = bench_after(to, b, line, &args, n)?;
-    say::text(to, b"\n")?;
-    Ok(next)
+// What is written after a case, and what the next ones work on.
+fn answer(to: &mut impl Write, b: &mut Bench, word: Word, args: &Numbers) -> io::Result<()> {
+    let w = &mut b.window;
+    match word {
+        Word::Sending => b.sides.sending = Side::of(args),
+        Word::Receiving => b.sides.receiving = Side::of(args),
+        Word::Open => *w = windows::open(to, &b.sides, short(args.at[1]))?,
+        Word::Send => windows::send(to, w, args.at[1])?,
+        Word::Report => windows::report(to, w, args)?,
+        Word::Formed => say::truth(to, w.well_formed())?,
+        Word::Show => show::show(to, w)?,
+        Word::Keep => b.kept = *w,
+        Word::Back => *w = b.kept,
+        Word::PutQuantum => w.quantum = short(args.at[1]),
+        Word::PutSent => w.sent = args.at[1],
+        Word::PutSending => edits::put_bounds(&mut w.sending, args),
+        Word::PutSendingShare => edits::put_share(&mut w.sending, args),
+        Word::PutReceiving => edits::put_bounds(&mut w.downstream.cluster, args),
+        Word::PutReceivingShare => edits::put_share(&mut w.downstream.cluster, args),
+        Word::PutPoint => w.downstream.point = args.at[1],
+        Word::PutReport => edits::put_report(&mut w.downstream, args),
+        Word::PutEntry => edits::put_entry(&mut w.downstream, args),
+        Word::Arrive => members::arrive(to, &mut b.holdings, args.at[1])?,
+        Word::Tell => members::tell(to, b.holdings)?,
+        Word::Hold => b.holdings = members::hold(args),
+        Word::Fresh => b.holdings = holdings::fresh(),
+        Word::HoldsWell => say::truth(to, holdings::well_formed(b.holdings))?,
+        Word::ArriveAt => members::arrive_at(to, &mut b.holdings, args.at[1])?,
+    }
+    Ok(())
 }
 
 pub(crate) fn run_all(to: &mut impl Write, cases: &[u8]) -> io::Result<()> {
     let mut b = bench::empty();
-    let mut start = 0;
-    while start < cases.len() {
-        let end = start + line_length(cases, start);
-        b = run_line(to, b, &cases[start..end])?;
-        if cases.len() <= end {
-            return Ok(());
-        }
-        start = end + 1;
-    }
-    Ok(())
+    run_each(to, cases, |to, line| match word_of(line) {
+        Some(word) => answer(to, &mut b, word, &Numbers::of(line)),
+        None => Ok(()),
+    })
 }

@@ -1,53 +1,85 @@
-// The words that a case may start with, and their places in the list of them.
-use script::input;
+// The words that a case may start with. Behind each stands what its numbers are and what is written after the colon.
+use script::input::word;
 
-pub(crate) const OPEN: usize = 0;
+#[derive(Clone, Copy)]
+pub(crate) enum Word {
+    // u r shares: the cluster that the next cases get as the sending one, and no answer.
+    Sending,
+    // The same of the receiving one.
+    Receiving,
+    // q: the refusal, and the window that is handed back for the next cases.
+    Open,
+    // k: the refusal, and the step.
+    Send,
+    // member c mask room: the refusal, the verdicts written, the step, and the output, each byte 7 before.
+    Report,
+    // 1 where the state is well formed, else 0.
+    Formed,
+    // The whole state, places of zeros left out.
+    Show,
+    // The window is kept, with no answer.
+    Keep,
+    // The next cases get the window that was kept, with no answer.
+    Back,
+    // q: put into the window, well formed or not, with no answer. So is what the next words put.
+    PutQuantum,
+    // S
+    PutSent,
+    // members u r
+    PutSending,
+    // place share
+    PutSendingShare,
+    // members u r
+    PutReceiving,
+    // place share
+    PutReceivingShare,
+    // p
+    PutPoint,
+    // member c mask heard
+    PutReport,
+    // place count complaints
+    PutEntry,
+    // k: the refusal and the holdings after it.
+    Arrive,
+    // The receiver's report, its refusal first.
+    Tell,
+    // c mask: the holdings that the next calls get, well formed or not, and no answer.
+    Hold,
+    // The holdings of a member that has received nothing, and no answer.
+    Fresh,
+    // 1 where the holdings are well formed, else 0.
+    HoldsWell,
+    // k: the same as of arrive, by lent holdings.
+    ArriveAt,
+}
 
-pub(crate) const SEND: usize = 1;
-
-pub(crate) const REPORT: usize = 2;
-
-pub(crate) const FORMED: usize = 3;
-
-pub(crate) const SHOW: usize = 4;
-
-pub(crate) const KEEP: usize = 5;
-
-pub(crate) const BACK: usize = 6;
-
-pub(crate) const PUT_QUANTUM: usize = 7;
-
-pub(crate) const PUT_SENT: usize = 8;
-
-pub(crate) const PUT_SENDING: usize = 9;
-
-pub(crate) const PUT_SENDING_SHARE: usize = 10;
-
-pub(crate) const PUT_RECEIVING: usize = 11;
-
-pub(crate) const PUT_RECEIVING_SHARE: usize = 12;
-
-pub(crate) const PUT_POINT: usize = 13;
-
-pub(crate) const PUT_REPORT: usize = 14;
-
-pub(crate) const PUT_ENTRY: usize = 15;
-
-pub(crate) const ARRIVE: usize = 16;
-
-pub(crate) const TELL: usize = 17;
-
-pub(crate) const HOLD: usize = 18;
-
-pub(crate) const FRESH: usize = 19;
-
-pub(crate) const HOLDS_WELL: usize = 20;
-
-pub(crate) const ARRIVE_AT: usize = 21;
-
-pub(crate) fn word_of(line: &[u8]) -> usize {
-    input::place_of(
-        line,
-        b"open send report formed show keep back put-quantum put-sent put-sending put-sending-share put-receiving put-receiving-share put-point put-report put-entry arrive tell hold fresh holds-well arrive-at ",
-    )
+// The word that a line starts with; none where the line is a remark.
+pub(crate) fn word_of(line: &[u8]) -> Option<Word> {
+    match word(line) {
+        b"sending" => Some(Word::Sending),
+        b"receiving" => Some(Word::Receiving),
+        b"open" => Some(Word::Open),
+        b"send" => Some(Word::Send),
+        b"report" => Some(Word::Report),
+        b"formed" => Some(Word::Formed),
+        b"show" => Some(Word::Show),
+        b"keep" => Some(Word::Keep),
+        b"back" => Some(Word::Back),
+        b"put-quantum" => Some(Word::PutQuantum),
+        b"put-sent" => Some(Word::PutSent),
+        b"put-sending" => Some(Word::PutSending),
+        b"put-sending-share" => Some(Word::PutSendingShare),
+        b"put-receiving" => Some(Word::PutReceiving),
+        b"put-receiving-share" => Some(Word::PutReceivingShare),
+        b"put-point" => Some(Word::PutPoint),
+        b"put-report" => Some(Word::PutReport),
+        b"put-entry" => Some(Word::PutEntry),
+        b"arrive" => Some(Word::Arrive),
+        b"tell" => Some(Word::Tell),
+        b"hold" => Some(Word::Hold),
+        b"fresh" => Some(Word::Fresh),
+        b"holds-well" => Some(Word::HoldsWell),
+        b"arrive-at" => Some(Word::ArriveAt),
+        _ => None,
+    }
 }

@@ -14,8 +14,7 @@ use Rattle.basics.proofs.BoolLaws.{and_both, and_left, and_right, and_not_left, 
 use Rattle.basics.proofs.SumLaws.{all_at, all_of, sum_bound}
 use Rattle.basics.proofs.CheckLaws.{first_passed, later_passed, Numbered}
 use Rattle.shares.specs.Shares.{total_of}
-use Rattle.shares.specs.Cluster.{members_fit, is_share, shares_fit, bounds_fit, cluster_checks, cluster_refusal, cluster_answer, Accepted}
-use Rattle.shares.specs.declared.cluster.ClusterAnswer.{ClusterAnswer}
+use Rattle.shares.specs.Cluster.{members_fit, is_share, shares_fit, bounds_fit, cluster_checks, cluster_refusal, ClusterAnswer, cluster_answer, Accepted}
 
 -- ---- the checks, from what the code knows where it answers
 members_none : (s : List ℕ) → length s < 1 → members_fit s ≡ false

@@ -1,22 +1,24 @@
 -- The point: it is reached, nothing larger is, it grows with the values, and it is found among the values alone. Assumes nothing.
-use mathlib.Core.Path.{◌≡◌, refl, ap, ◌∙◌}
+use mathlib.Core.Path.{◌≡◌, refl, ap, ap₂, sym, ◌∙◌}
 use mathlib.Core.Bool.{Bool, true, cond, ◌&&◌, ◌||◌}
 use mathlib.Core.List.{List}
 use mathlib.Core.Logic.{◌⊎◌, inl, inr}
-use Prim.Native.Nat.{ℕ, zero, suc, ◌+◌, ◌-◌, ◌≤◌, ◌<◌, max, zero-le}
+use Prim.Native.Nat.{ℕ, zero, suc, ◌+◌, ◌-◌, ◌≤◌, ◌<◌, max, min, zero-le}
 use native.Mathlib.Decide.{dec_le, dec_lt}
 use native.Mathlib.Numerals.{add-one}
 use native.Mathlib.Omega.{arith}
 use lib.Dec.{leb, ltb, eqb}
-use lib.ListN.{length, get_or}
-use borrow.Author.Tests.{le-leb, lt-leb, leb-true, lt-ltb, le-ltb, ltb-true, eq-eqb, eqb-true}
+use native.Mathlib.Nat.{add-zero, add-suc}
+use lib.ListN.{length, get_or, take, drop, length-drop, get_or-eq_default}
+use borrow.Author.Tests.{le-leb, lt-leb, leb-true, lt-ltb, le-ltb, ltb-true, eq-eqb, ne_eqb, eqb-true}
+use Rattle.std.proofs.lemmas.List.{take_all}
 use Rattle.basics.specs.Sums.{highest_below}
 use Rattle.basics.proofs.BoolLaws.{bool_cases, and_both, and_left, and_right, or_left, or_right, or_cases, same_test, leb_same}
 use Rattle.basics.proofs.SumLaws.{sum_zero, highest_at, highest_le}
 use Rattle.basics.proofs.LargestLaws.{largest_le, largest_passes, largest_above, largest_unique}
-use Rattle.shares.specs.Shares.{share_of}
+use Rattle.shares.specs.Shares.{total_of, share_of}
 use Rattle.shares.specs.Point.{reached_of, point_of}
-use Rattle.shares.proofs.ShareLaws.{share_mono, share_same}
+use Rattle.shares.proofs.ShareLaws.{share_mono, share_same, share_split, share_all, share_nobody}
 
 -- ---- the best of the candidates: how the code goes through the values
 unfoldable pub best_of : (ℕ → Bool) → (ℕ → ℕ) → ℕ → ℕ
@@ -91,6 +93,23 @@ attained v (suc n) = elim (dec_le (v n) (highest_below n v)) [
   | no l ↦ (let e : max (highest_below n v) (v n) ≡ v n = omega arith in rw e (inr (n, omega arith, refl)))
 ]
 
+-- ---- those that have a value, and those that have none
+pub reached_parts : (shares values : List ℕ) (g n a b : ℕ) → n ≡ min (length shares) (length values)
+    → a ≡ share_of (take n shares) (λ i. leb g (get_or values i 0)) → b ≡ cond (eqb g 0) (total_of (take (length shares - n) (drop n shares))) 0
+    → a + b ≡ reached_of shares values g
+unfolding reached_of
+reached_parts shares values g n a b f e h =
+    ap₂ ◌+◌ e (h ∙ ap (λ (l : List ℕ). cond (eqb g 0) (total_of l) 0) (take_all (length shares - n) (drop n shares) (omega (arith, length-drop n shares))) ∙ sym rest) ∙ sym (share_split n shares (λ i. leb g (get_or values i 0)) (omega arith))
+  where
+    none : (j : ℕ) → j < length (drop n shares) → get_or values (n + j) 0 ≡ 0
+    none j l = get_or-eq_default values 0 (omega (arith, length-drop n shares))
+
+    rest : share_of (drop n shares) (λ j. leb g (get_or values (n + j) 0)) ≡ cond (eqb g 0) (total_of (drop n shares)) 0
+    rest = elim (dec_le g 0) [
+      | yes l ↦ simp (eq-eqb g 0 (omega arith)) (share_all (drop n shares) (λ j. leb g (get_or values (n + j) 0)) (λ j m. le-leb g (get_or values (n + j) 0) (omega arith)))
+      | no l ↦ simp (ne_eqb g 0 (λ z. omega arith)) (share_nobody (drop n shares) (λ j. leb g (get_or values (n + j) 0)) (λ j m. lt-leb g (get_or values (n + j) 0) (omega (arith, none j m))))
+    ]
+
 -- ---- the members' values are all the candidates that matter
 module _ (shares values : List ℕ) (t : ℕ) where
   abbrev value : ℕ → ℕ
@@ -129,8 +148,23 @@ module _ (shares values : List ℕ) (t : ℕ) where
   best_is_point = largest_unique reaches top best (best_le reaches value (length shares)) (best_passes reaches value (length shares))
       (λ k l y. below_best (top - k) k (omega arith) y)
 
-  pub point_done : (i b : ℕ) → b ≡ best_of reaches value i → i ≤ length shares → length shares ≤ i → b ≡ point_of shares values t
-  point_done i b e l m = let z : i ≡ length shares = omega arith in e ∙ ap (λ (n : ℕ). best_of reaches value n) z ∙ best_is_point
+  -- who has no value is none of them
+  best_rest : (n d : ℕ) → ((j : ℕ) → n ≤ j → value j ≡ 0) → best_of reaches value (n + d) ≡ best_of reaches value n
+  unfolding best_of
+  best_rest n zero h = ap (best_of reaches value) (add-zero n)
+  best_rest n (suc d) h =
+      ap (best_of reaches value) (add-suc n d)
+      ∙ simp (le-ltb (best_of reaches value (n + d)) (value (n + d)) (omega (arith, h (n + d) (omega arith)))) (best_rest n d h)
+
+  pub point_done : (i n b : ℕ) → b ≡ best_of reaches value i → n ≡ min (length shares) (length values) → i ≤ n → n ≤ i → b ≡ point_of shares values t
+  point_done i n b e f l m =
+      let z : length shares ≡ i + (length shares - i) = omega arith in
+      e
+      ∙ elim (dec_le (length shares) i) [
+        | yes k ↦ (let y : i ≡ length shares = omega arith in ap (best_of reaches value) y)
+        | no k ↦ sym (ap (best_of reaches value) z ∙ best_rest i (length shares - i) (λ j h. get_or-eq_default values 0 (omega arith)))
+      ]
+      ∙ best_is_point
 
   -- ---- the law: the point is reached, and nothing above it is
   pub point_reached : 1 ≤ point_of shares values t → t ≤ reached_of shares values (point_of shares values t)

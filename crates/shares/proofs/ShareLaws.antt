@@ -1,6 +1,6 @@
 -- Shares of sets of members, proved once over the number of members: a larger set has no smaller share, disjoint sets add up, and a set
 -- with more share than can fail has a member that does not. Assumes nothing.
-use mathlib.Core.Path.{◌≡◌, refl, ap, sym, ◌∙◌}
+use mathlib.Core.Path.{◌≡◌, refl, ap, ap₂, sym, ◌∙◌}
 use mathlib.Core.Bool.{Bool, true, false, cond, not, ◌||◌}
 use mathlib.Core.List.{List, [], ◌∷◌}
 use mathlib.Core.Logic.{◌⊎◌, inl, inr}
@@ -8,11 +8,11 @@ use Prim.Native.Nat.{ℕ, zero, suc, ◌+◌, ◌-◌, ◌≤◌, ◌<◌, zero-
 use native.Mathlib.Omega.{arith}
 use mir.Syntax.{w64}
 use mir.Val.{Fits}
-use lib.ListN.{length, get_or, take}
-use lib.Seq.{get_or-take, length-take-le}
+use lib.ListN.{length, get_or, take, drop, length-drop}
+use lib.Seq.{get_or-take, get_or-drop, length-take-le}
 use Rattle.basics.specs.Sums.{sum_below}
 use Rattle.basics.proofs.BoolLaws.{bool_cases}
-use Rattle.basics.proofs.SumLaws.{sum_tail, sum_cong, sum_mono, sum_add, sum_front, sum_part}
+use Rattle.basics.proofs.SumLaws.{sum_tail, sum_split, sum_zero, sum_cong, sum_mono, sum_add, sum_front, sum_part}
 use Rattle.marks.specs.Masks.{is_marked, reach_of}
 use Rattle.marks.proofs.RunLaws.{reach_above}
 use Rattle.shares.specs.Shares.{total_of, share_of}
@@ -39,6 +39,28 @@ pub total_take : (n : ℕ) (xs : List ℕ) → n ≤ length xs → total_of (tak
 unfolding total_of
 total_take n xs l =
     rw (length-take-le n xs l) (sum_cong (λ i. get_or (take n xs) i 0) (λ i. get_or xs i 0) n (λ j h. get_or-take n xs j 0 h))
+
+-- a set's members among the first n, and those behind them
+pub share_split : (n : ℕ) (xs : List ℕ) (p : ℕ → Bool) → n ≤ length xs → share_of xs p ≡ share_of (take n xs) p + share_of (drop n xs) (λ j. p (n + j))
+unfolding share_of
+share_split n xs p l =
+    let z : length xs ≡ n + (length xs - n) = omega arith in
+    ap (λ (m : ℕ). sum_below m (λ i. cond (p i) (get_or xs i 0) 0)) z
+    ∙ sum_split (λ i. cond (p i) (get_or xs i 0) 0) n (length xs - n)
+    ∙ ap₂ ◌+◌
+    (ap (λ (m : ℕ). sum_below m (λ i. cond (p i) (get_or xs i 0) 0)) (sym (length-take-le n xs l))
+    ∙ sum_cong (λ i. cond (p i) (get_or xs i 0) 0) (λ i. cond (p i) (get_or (take n xs) i 0) 0) (length (take n xs)) (λ j h. ap (λ (x : ℕ). cond (p j) x 0) (sym (get_or-take n xs j 0 (omega (arith, length-take-le n xs l))))))
+    (ap (λ (m : ℕ). sum_below m (λ j. cond (p (n + j)) (get_or xs (n + j) 0) 0)) (sym (length-drop n xs))
+    ∙ sum_cong (λ j. cond (p (n + j)) (get_or xs (n + j) 0) 0) (λ j. cond (p (n + j)) (get_or (drop n xs) j 0) 0) (length (drop n xs)) (λ j h. ap (λ (x : ℕ). cond (p (n + j)) x 0) (sym (get_or-drop n xs j 0))))
+
+-- the set of all, and the set of nobody
+pub share_all : (xs : List ℕ) (p : ℕ → Bool) → ((i : ℕ) → i < length xs → p i ≡ true) → share_of xs p ≡ total_of xs
+unfolding share_of total_of
+share_all xs p h = sum_cong (λ i. cond (p i) (get_or xs i 0) 0) (λ i. get_or xs i 0) (length xs) (λ i l. simp (h i l))
+
+pub share_nobody : (xs : List ℕ) (p : ℕ → Bool) → ((i : ℕ) → i < length xs → p i ≡ false) → share_of xs p ≡ 0
+unfolding share_of
+share_nobody xs p h = sum_zero (λ i. cond (p i) (get_or xs i 0) 0) (length xs) (λ i l. simp (h i l))
 
 module _ (shares : List ℕ) where
   abbrev part : (ℕ → Bool) → ℕ → ℕ
@@ -123,9 +145,11 @@ module _ (shares : List ℕ) (members : ℕ) (fits : Fits w64 members) where
     | inr t ↦ simp t
   ]
 
-  pub share_done : (i n r sum : ℕ) → sum ≡ sum_below i named → i ≤ n → n ≤ i → r ≡ reach_of members → n ≡ min (length shares) r → sum ≡ share_of shares (is_marked members)
+  pub share_named : (n r sum : ℕ) → r ≡ reach_of members → n ≡ min (length shares) r → sum ≡ share_of (take n shares) (is_marked members) → sum ≡ share_of shares (is_marked members)
   unfolding share_of
-  share_done i n r sum e a b f g =
-      let d : ℕ = length shares - i in
-      let z : i + d ≡ length shares = omega arith in
-      e ∙ sym (sum_tail named i d (λ j l m. unnamed j (omega arith))) ∙ ap (λ (m : ℕ). sum_below m named) z
+  share_named n r sum f g e =
+      let d : ℕ = length shares - n in
+      let z : n + d ≡ length shares = omega arith in
+      let here : share_of (take n shares) (is_marked members) ≡ sum_below n named =
+      rw (length-take-le n shares (omega arith)) (sum_cong (λ i. cond (is_marked members i) (get_or (take n shares) i 0) 0) named n (λ j h. ap (λ (x : ℕ). cond (is_marked members j) x 0) (get_or-take n shares j 0 h))) in
+      e ∙ here ∙ sym (sum_tail named n d (λ j l m. unnamed j (omega arith))) ∙ ap (λ (m : ℕ). sum_below m named) z

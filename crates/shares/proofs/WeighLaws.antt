@@ -1,44 +1,50 @@
 -- Shares weighed in one pass: bits that tell whether all are allowed, and a sum counted round. Assumes nothing.
 use mathlib.Core.Path.{◌≡◌, refl, ap₂, sym, ◌∙◌}
-use mathlib.Core.Bool.{Bool, true, false, cond, ◌&&◌}
-use Prim.Native.Nat.{ℕ, ◌+◌, ◌-◌, ◌%◌, ◌^◌, ◌≤◌, ◌<◌}
+use mathlib.Core.Bool.{Bool, true, false, ◌&&◌}
+use Prim.Native.Nat.{ℕ, ◌+◌, ◌-◌, ◌%◌, ◌^◌}
 use native.Mathlib.Decide.{dec_lt, dec_le}
 use native.Mathlib.Omega.{arith}
 use lib.Bits.{bit_or}
-use lib.Dec.{leb, ltb, eqb}
-use borrow.Author.Tests.{le-leb, lt-leb, lt-ltb, le-ltb, eq-eqb, ne_eqb}
+use lib.Dec.{leb, ltb}
+use borrow.Author.Tests.{le-leb, lt-leb, lt-ltb, le-ltb}
+use mir.Val.{Fits}
+use mir.Syntax.{w32}
 use Rattle.basics.specs.Sums.{sum_below, all_below}
 use Rattle.basics.proofs.BoolLaws.{and_not_left, and_not_right}
 use Rattle.basics.proofs.SumLaws.{sum_more, all_turn}
 use Rattle.basics.proofs.BitLaws.{or_below}
 use Rattle.shares.specs.Cluster.{is_share}
 
-pub limit_past : (x : ℕ) → 1000000 < x → 4294967295 - (x - 1000001) ≡ cond (leb x 1000000) (1000000 - x) (4295967296 - x)
-limit_past x l = simp (lt-leb x 1000000 l) (omega arith)
+-- both differences, counted round, are below 2^31 from 1 to 1,000,000 alone
+module _ (x : ℕ) (w : Fits w32 x) where
+  abbrev one_less : ℕ
+  one_less = (x + 4294967295) % 4294967296
 
-pub share_told : (x a b : ℕ) → a ≡ cond (eqb x 0) 4294967295 (x - 1) → b ≡ cond (leb x 1000000) (1000000 - x) (4295967296 - x) → ltb (bit_or a b) 2147483648 ≡ is_share x
-unfolding is_share
-share_told x a b e f = or_below 31 a b ∙ both
-  where
-    both : (ltb a (2 ^ 31) && ltb b (2 ^ 31)) ≡ (leb 1 x && leb x 1000000)
-    both = elim (dec_lt 0 x) [
-      | yes l ↦ (elim (dec_le x 1000000) [
-        | yes m ↦ (let ea : a ≡ x - 1 = e ∙ simp (ne_eqb x 0 (λ z. omega arith)) in
-            let eb : b ≡ 1000000 - x = f ∙ simp (le-leb x 1000000 m) in
-            simp (lt-ltb a (2 ^ 31) (omega arith), lt-ltb b (2 ^ 31) (omega arith), le-leb 1 x (omega arith), le-leb x 1000000 m))
-        | no m ↦ (let ea : a ≡ x - 1 = e ∙ simp (ne_eqb x 0 (λ z. omega arith)) in
-            let eb : b ≡ 4295967296 - x = f ∙ simp (lt-leb x 1000000 (omega arith)) in
-            elim (dec_lt a (2 ^ 31)) [
-              | yes y ↦ and_not_right (ltb a (2 ^ 31)) (ltb b (2 ^ 31)) (le-ltb b (2 ^ 31) (omega arith))
-              | no y ↦ and_not_left (ltb a (2 ^ 31)) (ltb b (2 ^ 31)) (le-ltb a (2 ^ 31) (omega arith))
-            ]
-            ∙ sym (and_not_right (leb 1 x) (leb x 1000000) (lt-leb x 1000000 (omega arith))))
-      ])
-      | no l ↦ (let z : x ≡ 0 = omega arith in
-          let ea : a ≡ 4294967295 = e ∙ simp (eq-eqb x 0 z) in
-          and_not_left (ltb a (2 ^ 31)) (ltb b (2 ^ 31)) (le-ltb a (2 ^ 31) (omega arith))
-          ∙ sym (and_not_left (leb 1 x) (leb x 1000000) (lt-leb 1 x (omega arith))))
+  abbrev limit_less : ℕ
+  limit_less = (1000000 + (4294967296 - x)) % 4294967296
+
+  abbrev low : ℕ → Bool
+  low y = ltb y (2 ^ 31)
+
+  both : (low one_less && low limit_less) ≡ (leb 1 x && leb x 1000000)
+  both = elim (dec_lt 0 x) [
+    | yes l ↦ elim (dec_le x 1000000) [
+      | yes m ↦ simp (lt-ltb one_less (2 ^ 31) (omega arith), lt-ltb limit_less (2 ^ 31) (omega arith), le-leb 1 x (omega arith), le-leb x 1000000 m)
+      | no m ↦
+          elim (dec_lt one_less (2 ^ 31)) [
+            | yes y ↦ and_not_right (low one_less) (low limit_less) (le-ltb limit_less (2 ^ 31) (omega (arith, w.fits)))
+            | no y ↦ and_not_left (low one_less) (low limit_less) (le-ltb one_less (2 ^ 31) (omega arith))
+          ]
+          ∙ sym (and_not_right (leb 1 x) (leb x 1000000) (lt-leb x 1000000 (omega arith)))
     ]
+    | no l ↦
+        and_not_left (low one_less) (low limit_less) (le-ltb one_less (2 ^ 31) (omega arith))
+        ∙ sym (and_not_left (leb 1 x) (leb x 1000000) (lt-leb 1 x (omega arith)))
+  ]
+
+  pub share_told : ltb (bit_or one_less limit_less) 2147483648 ≡ is_share x
+  unfolding is_share
+  share_told = or_below 31 one_less limit_less ∙ both
 
 -- one more share: its bits, and the total
 pub bits_start : (p : ℕ → Bool) → ltb 0 2147483648 ≡ all_below 0 p
@@ -74,9 +80,3 @@ total_start f = refl
 
 pub total_turn : (f : ℕ → ℕ) (i t r : ℕ) → t ≡ sum_below i f % 4294967296 → r ≡ (t + f i) % 4294967296 → r ≡ sum_below (i + 1) f % 4294967296
 total_turn f i t r e g = g ∙ rw (e, sum_more) (omega arith)
-
-pub total_done : (f : ℕ → ℕ) (i n t : ℕ) → t ≡ sum_below i f % 4294967296 → i ≤ n → n ≤ i → t ≡ sum_below n f % 4294967296
-total_done f i n t e a b = let z : i ≡ n = omega arith in rw z at e
-
-pub bits_done : (p : ℕ → Bool) (i n a : ℕ) → ltb a 2147483648 ≡ all_below i p → i ≤ n → n ≤ i → ltb a 2147483648 ≡ all_below n p
-bits_done p i n a e k l = let z : i ≡ n = omega arith in rw z at e

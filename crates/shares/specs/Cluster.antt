@@ -3,7 +3,8 @@ use Rattle.std.specs.Prelude.{Bool, cond, ◌&&◌, List, [], ◌∷◌, ℕ, �
 use Rattle.basics.specs.Sums.{all_below}
 use Rattle.basics.specs.Checks.{Check, ◌else◌, first_failing}
 use Rattle.shares.specs.Shares.{total_of}
-use Rattle.shares.specs.declared.cluster.ClusterAnswer.{ClusterAnswer}
+use Rattle.basics.specs.Refusals.{outcome_number}
+use Rattle.shares.specs.declared.cluster.Judgement.{Judgement}
 
 -- 1 to 64 members
 unfoldable pub members_fit : List ℕ → Bool
@@ -32,9 +33,18 @@ cluster_checks shares u r =
 unfoldable pub cluster_refusal : List ℕ → ℕ → ℕ → ℕ
 cluster_refusal shares u r = first_failing (cluster_checks shares u r)
 
+-- a refusal's number, 0 for none, and a total
+pub record ClusterAnswer : Type 0 where
+  pub refusal : ℕ
+  pub total : ℕ
+
 -- and the total share of up to 64 members, counted round in 32 bits: of an accepted cluster it is the total itself
 unfoldable pub cluster_answer : List ℕ → ℕ → ℕ → ClusterAnswer
 cluster_answer shares u r = record { refusal = cluster_refusal shares u r; total = cond (members_fit shares) (total_of shares % 4294967296) 0 }
+
+-- the same of a judgement
+abbrev pub told : Judgement → ClusterAnswer
+told j = record { refusal = outcome_number j.outcome; total = j.total }
 
 -- what is known of an accepted cluster
 pub record Accepted (shares : List ℕ) (u r : ℕ) : Type 0 where

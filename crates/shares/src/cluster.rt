@@ -1,56 +1,54 @@
 // Which clusters are accepted.
 ghost use Rattle.std.specs.Prelude.{◌≡◌, ◌&&◌, ◌+◌, ◌*◌, leb};
-ghost use Rattle.shares.specs.Cluster.{cluster_refusal, cluster_answer};
+ghost use Rattle.basics.specs.Refusals.{outcome_number};
+ghost use Rattle.shares.specs.Cluster.{cluster_refusal, cluster_answer, told};
 
 use crate::weighing::weigh;
+use basics::Refusal;
 
 // u and r may be any 32-bit numbers, so their sum is taken in 64.
 fn bounds_fit(d: u32, u: u32, r: u32) -> bool
     ensures { result ≡ (leb r u && leb (2 * u + r + 1) d) }
 {
-    let least = 2 * (u as u64) + (r as u64) + 1;
-    (r <= u) & (least <= d as u64)
+    let least = 2 * u64::from(u) + u64::from(r) + 1;
+    (r <= u) & (least <= u64::from(d))
 }
 
-// A refusal, 0 for none, and the total share, counted round: with no refusal that is the total itself.
+// Whether a cluster is accepted, and the total share, counted round: of an accepted one that is the total itself.
 #[derive(Clone, Copy)]
-pub struct ClusterAnswer {
-    pub refusal: u32,
+pub struct Judgement {
+    pub outcome: Result<(), Refusal>,
     pub total: u32,
 }
 
-// The refusal that a cluster gets: 1, 2, 3 in this order, 0 for none; and the total, which judging finds anyway. It is told whatever the
-// refusal, so that nothing that uses it need wait for the judgement.
-pub fn judge_cluster(shares: &[u32], u: u32, r: u32) -> ClusterAnswer
-    ensures { result ≡ cluster_answer shares.now u r }
+// The refusal that a cluster gets: 1, 2, 3 in this order; and the total, which judging finds anyway. It is told whatever the refusal, so
+// that nothing that uses it need wait for the judgement.
+#[tactic(auto, using(crate::proofs::ClusterLaws::judging))]
+pub fn judge_cluster(shares: &[u32], u: u32, r: u32) -> Judgement
+    ensures { told result ≡ cluster_answer shares.now u r }
 {
-    if shares.len() < 1 {
-        return ClusterAnswer {
-            refusal: 1,
-            total: 0,
-        };
-    }
-    if 64 < shares.len() {
-        return ClusterAnswer {
-            refusal: 1,
+    if shares.len() < 1 || 64 < shares.len() {
+        return Judgement {
+            outcome: Err(Refusal::Members),
             total: 0,
         };
     }
     let all = weigh(shares);
     let total = all.total;
-    if 2_147_483_648 <= all.bits {
-        return ClusterAnswer { refusal: 2, total };
-    }
-    if !bounds_fit(total, u, r) {
-        return ClusterAnswer { refusal: 3, total };
-    }
-    ClusterAnswer { refusal: 0, total }
+    let outcome = if 2_147_483_648 <= all.bits {
+        Err(Refusal::Share)
+    } else if !bounds_fit(total, u, r) {
+        Err(Refusal::Bounds)
+    } else {
+        Ok(())
+    };
+    Judgement { outcome, total }
 }
 
 // The refusal alone.
-pub fn cluster_refusal(shares: &[u32], u: u32, r: u32) -> u32
-    ensures { result ≡ cluster_refusal shares.now u r }
+#[tactic(auto, using(crate::proofs::ClusterLaws::answer_refusal))]
+pub fn cluster_refusal(shares: &[u32], u: u32, r: u32) -> Result<(), Refusal>
+    ensures { outcome_number result ≡ cluster_refusal shares.now u r }
 {
-    let answer = judge_cluster(shares, u, r);
-    answer.refusal
+    judge_cluster(shares, u, r).outcome
 }

@@ -130,10 +130,9 @@ pub small_start : (p rest : ℕ) (counts : List ℕ) → Small counts → SmallA
 small_start p rest counts h = record { low = λ j m k. h j }
 
 -- ---- nothing is left
-pub changed_done : (f : ℕ → ℕ) (p rest : ℕ) (column becomes : List ℕ) → length column ≡ 64 → changed_at f rest p column ≡ becomes → rest ≤ 0 → column ≡ becomes
+pub changed_done : (f : ℕ → ℕ) (p rest : ℕ) (column becomes : List ℕ) → length column ≡ 64 → changed_at f rest p column ≡ becomes → rest ≡ 0 → column ≡ becomes
 unfolding changed_at
-changed_done f p rest column becomes n e z =
-    let none : rest ≡ 0 = omega arith in
+changed_done f p rest column becomes n e none =
     list_is (λ j. cond (is_marked rest (offset_at p j)) (f (get_or column j 0)) (get_or column j 0)) 0 64 column n
     (λ j m. sym (simp (ap (λ (x : ℕ). is_marked x (offset_at p j)) none ∙ marked_none (offset_at p j))))
     ∙ e

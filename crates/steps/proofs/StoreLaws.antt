@@ -2,11 +2,11 @@
 use mathlib.Core.Path.{◌≡◌, refl, ap, sym, ◌∙◌}
 use mathlib.Core.Bool.{true, cond}
 use mathlib.Core.List.{List, [], ◌∷◌, ◌++◌, append-nil}
-use Prim.Native.Nat.{ℕ, ◌+◌, ◌≤◌, ◌<◌}
+use Prim.Native.Nat.{ℕ, ◌+◌, ◌<◌}
 use native.Mathlib.Nat.{zero-add, suc-add}
 use native.Mathlib.Decide.{ℕ_discrete}
 use native.Mathlib.Omega.{arith}
-use lib.ListN.{length, drop, take, set, get_or, length-set, length-append, take-append-drop, drop_of_length-le}
+use lib.ListN.{length, drop, take, set, length-set, length-append, take-append-drop, drop_of_length-le}
 use lib.Seq.{get_or-set_same, get_or-set_other, set-append_left, length-take-le}
 use borrow.Rule.Slice.PartMut.{put_mid}
 use Rattle.basics.specs.Sums.{list_below}
@@ -20,19 +20,7 @@ use Rattle.words.specs.Taken.{fits, window_in, reports_in, report_in}
 use Rattle.words.specs.Put.{shares_words, cluster_words, heard_of, report_words, entry_words, words_of}
 use Rattle.words.proofs.RoundTrip.{put_back}
 use Rattle.words.proofs.PutLaws.{length_cluster, length_numbers, length_masks, length_heard}
-use Rattle.words.proofs.ColumnLaws.{fill_done}
 use Rattle.steps.specs.Stored.{with_report}
-
--- ---- there is room for each word that is stored
-module _ (l : List ℕ) (i : ℕ) (n : length l ≡ 457) (m : i < 64) where
-  pub room_number : (a x : ℕ) → 137 + i < length (set l a x)
-  room_number a x = simp (length-set, n) (omega arith)
-
-  pub room_mask : (a b x y : ℕ) → 201 + i < length (set (set l a x) b y)
-  room_mask a b x y = simp (length-set, n) (omega arith)
-
-  pub room_heard : (a b d x y z : ℕ) → 265 + i < length (set (set (set l a x) b y) d z)
-  room_heard a b d x y z = simp (length-set, n) (omega arith)
 
 -- ---- a word stored behind others
 set_right : (xs ys : List ℕ) (a i v : ℕ) → length xs ≡ a → set (xs ++ ys) (a + i) v ≡ xs ++ set ys i v
@@ -153,11 +141,8 @@ report_stored ws i c mask p n f l =
     ∙ ap (λ (r : List ℕ). set (set (set r (137 + i) c) (201 + i) mask) (265 + i) 1) (point_word (window_in ws) p)
     ∙ stored_words (with_point (window_in ws) p) i c mask (places_in ws) l
 
--- ---- a column that is put, and the two columns of the entries
-pub column_put : (j : ℕ) (l o column : List ℕ) → l ≡ list_below j (λ x. get_or column x 0) ++ drop j o → length o ≡ 64 → j ≤ 64 → 64 ≤ j → length column ≡ 64 → l ≡ column
-column_put j l o column e n a b m = fill_done (λ x. get_or column x 0) j l o e n a b ∙ sym (list_is (λ x. get_or column x 0) 0 64 column m (λ x h. refl))
-
-pub entries_put : (s a b x y : List ℕ) → length s ≡ 457 → length x ≡ 64 → length y ≡ 64 → a ≡ x → b ≡ y → put_mid 393 64 (put_mid 329 64 s a) b ≡ take 329 s ++ x ++ y
+-- ---- the two columns of the entries
+entries_put : (s a b x y : List ℕ) → length s ≡ 457 → length x ≡ 64 → length y ≡ 64 → a ≡ x → b ≡ y → put_mid 393 64 (put_mid 329 64 s a) b ≡ take 329 s ++ x ++ y
 entries_put s a b x y n lx ly ea eb =
     let lt : length (take 329 s) ≡ 329 = length-take-le 329 s (omega (arith, n)) in
     let one : put_mid 329 64 s a ≡ (take 329 s ++ x) ++ drop 393 s =
@@ -167,6 +152,6 @@ entries_put s a b x y n lx ly ea eb =
     ∙ ap (λ (t : List ℕ). (take 329 s ++ x ++ y) ++ t) (drop_of_length-le s {i = 457} (omega (arith, n)))
     ∙ append-nil (take 329 s ++ x ++ y)
 
--- the columns behind a state's other words
-pub put_behind : (s w counts sets l : List ℕ) → s ≡ w → l ≡ take 329 s ++ counts ++ sets → l ≡ take 329 w ++ counts ++ sets
-put_behind s w counts sets l e f = f ∙ rw e refl
+-- behind a state's other words
+pub entries_behind : (s w a b x y : List ℕ) → s ≡ w → length s ≡ 457 → length x ≡ 64 → length y ≡ 64 → a ≡ x → b ≡ y → put_mid 393 64 (put_mid 329 64 s a) b ≡ take 329 w ++ x ++ y
+entries_behind s w a b x y e n lx ly ea eb = entries_put s a b x y n lx ly ea eb ∙ rw e refl

@@ -1,5 +1,5 @@
 -- The columns of the entries as a report changes them, place by place. Assumes nothing.
-use Rattle.std.specs.Prelude.{Bool, cond, List, ℕ, ◌+◌, ◌-◌, ◌≤◌, ltb, get_or}
+use Rattle.std.specs.Prelude.{◌≡◌, Bool, true, cond, List, ℕ, ◌+◌, ◌-◌, ◌≤◌, ◌<◌, ltb, get_or, Option, MatchOption}
 use Rattle.basics.specs.Sums.{list_below}
 use Rattle.marks.specs.Masks.{is_marked, mark_of, unmark_of, run_of}
 use Rattle.downstream.specs.State.{offset_at}
@@ -27,6 +27,10 @@ Small counts = (j : ℕ) → get_or counts j 0 ≤ 255
 -- the first bit of a set that has one
 abbrev pub first_bit : ℕ → ℕ
 first_bit set = run_of (18446744073709551615 - set)
+
+-- of the messages that are left the first is taken, and the others are left; none where none is
+abbrev pub TakesFirst : ℕ → Option ℕ → ℕ → Type 0
+TakesFirst rest r left = MatchOption r (rest ≡ 0) (λ o. (o ≡ first_bit rest) × (is_marked rest o ≡ true) × (o < 64) × (left ≡ unmark_of rest (first_bit rest)))
 
 -- a column changed at the places of a set of messages, bit o for message p + 1 + o
 unfoldable pub changed_at : (ℕ → ℕ) → ℕ → ℕ → List ℕ → List ℕ

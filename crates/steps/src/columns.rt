@@ -20,10 +20,8 @@ fn emptied_at(words: &[u64; 457], at: usize, p: u64, n: u64) -> [u64; 64]
     ensures { result ≡ open_at words.now at p n }
 {
     let mut column = [0u64; 64];
-    let mut j: usize = 0;
-    while j < 64 {
-        column[j] = open_word(words, at, p, n, j);
-        j += 1;
+    for (j, word) in column.iter_mut().enumerate() {
+        *word = open_word(words, at, p, n, j);
     }
     column
 }

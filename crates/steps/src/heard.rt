@@ -17,7 +17,7 @@ fn missing_after(h: Hearing, p: u64) -> u64
     ensures { result ≡ bit_or (held_after p (h.highest - 1) 0) (cond (h.again && eqb h.number p) 1 0) }
 {
     let below = marks::held_after(p, basics::less(h.highest, 1), 0);
-    below | (h.again & (h.number == p)) as u64
+    below | u64::from(h.again & (h.number == p))
 }
 
 // The complaint sets of the n messages after p with the report heard; every other set is empty.

@@ -1,4 +1,5 @@
-// The steps of an accepted report in the lent words of the state: what they need is read first, and only what changes is put.
+// The steps of an accepted report in the lent words of the state: what they need is read first, and only what changes is put. `window` takes
+// the same steps by value, a form that document 01 names; these are for C, which lends words.
 #![tactic(auto)]
 
 mod changing;
@@ -6,6 +7,7 @@ mod columns;
 mod deciding;
 mod heard;
 mod hearing;
+mod messages;
 mod putting;
 mod refusing;
 mod stepping;

@@ -1,10 +1,12 @@
 // Which refusal a report gets of the state that stands in words.
 ghost use Rattle.std.specs.Prelude.{◌≡◌, true};
+ghost use Rattle.basics.specs.Refusals.{outcome_number};
 ghost use Rattle.downstream.specs.State.{report_at};
 ghost use Rattle.window.specs.Formed.{well_formed};
 ghost use Rattle.window.specs.Reporting.{report_refusal};
 ghost use Rattle.words.specs.Taken.{reports_in, window_in};
 
+use basics::Refusal;
 use downstream::Report;
 
 // The latest report of member i; an all-zero one where there is no such place.
@@ -13,11 +15,7 @@ pub(crate) fn former_in(words: &[u64; 457], i: u32) -> Report
 {
     let at = i as usize;
     if at < 64 {
-        Report {
-            number: words[137 + at],
-            mask: words[201 + at],
-            heard: words[265 + at] == 1,
-        }
+        words::report_in(words, at)
     } else {
         Report {
             number: 0,
@@ -27,11 +25,17 @@ pub(crate) fn former_in(words: &[u64; 457], i: u32) -> Report
     }
 }
 
-// The refusal that a report gets of a well-formed state: 5, 8, 12, 11, 13 in this order, 0 for none.
+// The refusal that a report gets of a well-formed state: 5, 8, 12, 11, 13 in this order.
 // inner: for a caller that has judged the words.
-pub fn report_refusal(words: &[u64; 457], i: u32, c: u64, mask: u64, room: usize) -> u32
+pub fn report_refusal(
+    words: &[u64; 457],
+    i: u32,
+    c: u64,
+    mask: u64,
+    room: usize,
+) -> Result<(), Refusal>
     requires { true ≡ well_formed (window_in words.now) }
-    ensures { result ≡ report_refusal (window_in words.now) i c mask room }
+    ensures { outcome_number result ≡ report_refusal (window_in words.now) i c mask room }
 {
     let former = former_in(words, i);
     window::given_refusal(words[67], words[135], former, i, c, mask, room)

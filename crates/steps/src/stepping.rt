@@ -33,7 +33,7 @@ fn put_lost(
     let mut raised = *counts;
     let mut emptied = *sets;
     raise(&mut raised, &mut emptied, due, p);
-    put_step(h.member, h.number, h.mask, p, &raised, &emptied, words);
+    put_step(h, p, &raised, &emptied, words);
     verdicts
 }
 
@@ -47,7 +47,7 @@ fn judge_open(words: &mut [u64; 457], h: Hearing, p: u64, out: &mut [u8]) -> u32
     let sets = heard_after(words, h, p, n);
     let due = due_after(words, h, &counts, &sets, p);
     if due == 0 {
-        put_step(h.member, h.number, h.mask, p, &counts, &sets, words);
+        put_step(h, p, &counts, &sets, words);
         return 0;
     }
     put_lost(words, h, p, due, &counts, &sets, out)
@@ -62,7 +62,7 @@ pub fn take_report(words: &mut [u64; 457], i: u32, c: u64, mask: u64, out: &mut 
     let h = hearing_of(words, i, c, mask);
     let p = point_after(words, i, c);
     if is_quiet(words, h, p) {
-        put_report(h.member, h.number, h.mask, p, words);
+        put_report(h, p, words);
         return 0;
     }
     judge_open(words, h, p, out)

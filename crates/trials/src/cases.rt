@@ -1,48 +1,56 @@
 // The lines of the input, each a case or a remark.
-use crate::{bytes, circles, clusters, masks, numbers, pairs, plans, words};
-use script::lines::line_length;
-use script::sides::{Sides, no_sides, side_named, sides_after};
-use script::{input, say};
+use crate::words::{Word, word_of};
+use crate::{bytes, circles, clusters, links, pairs, plans};
+use script::groups::Unit;
+use script::input::{Numbers, short};
+use script::lines::run_each;
+use script::say;
+use script::sides::{Side, Sides, no_sides};
 use std::io;
 use std::io::Write;
 
-// Calls on numbers alone.
-fn number_case(to: &mut impl Write, word: usize, args: &[u64; 100]) -> io::Result<()> {
-    numbers::say_number(to, word, args)?;
-    numbers::say_range(to, word, args[1])?;
-    masks::say_number(to, word, args[1], args[2])?;
-    masks::say_truth(to, word, args)?;
-    if word == words::RESEND_FROM {
-        circles::resend_from(to, args)?;
+// What is written after a case, and the clusters that the next ones get.
+fn answer(to: &mut impl Write, sides: &mut Sides, word: Word, args: &Numbers) -> io::Result<()> {
+    let (a, b, c) = (args.at[1], args.at[2], args.at[3]);
+    match word {
+        Word::Sending => sides.sending = Side::of(args),
+        Word::Receiving => sides.receiving = Side::of(args),
+        Word::Cluster => clusters::cluster(to, &Side::of(args))?,
+        Word::Counts => clusters::counts(to, &sides.sending, short(a), b as usize)?,
+        Word::Pair => pairs::pair(to, sides, short(a))?,
+        Word::First => pairs::first(to, sides, short(a), b)?,
+        Word::Resend => pairs::resend(to, sides, short(a), b, short(c))?,
+        Word::Read => links::read(to, args)?,
+        Word::Write => links::write(to, args)?,
+        Word::Plan => plans::plan(to, args, Unit::Record)?,
+        Word::PlanBytes => plans::plan(to, args, Unit::Byte)?,
+        Word::Wide => say::answer(to, basics::wide(short(a)))?,
+        Word::Less => say::answer(to, basics::less(a, b))?,
+        Word::Least => say::answer(to, basics::least(a, b))?,
+        Word::IsMessage => say::truth(to, basics::is_message(a))?,
+        Word::IsQuantum => say::truth(to, basics::is_quantum(short(a)))?,
+        Word::IsResend => say::truth(to, basics::is_resend(short(a)))?,
+        Word::PutNumber => bytes::put_number(to, a, b as usize)?,
+        Word::AllZero => bytes::all_zero(to, args)?,
+        Word::IsMarked => say::truth(to, marks::is_marked(a, b))?,
+        Word::Mark => say::answer(to, marks::mark(a, b))?,
+        Word::Unmark => say::answer(to, marks::unmark(a, b))?,
+        Word::Run => say::answer(to, u64::from(marks::run(a)))?,
+        Word::Past => say::answer(to, marks::past(a, b))?,
+        Word::Reach => say::answer(to, marks::reach(a))?,
+        Word::IsSubset => say::truth(to, marks::is_subset(a, b))?,
+        Word::Holds => say::truth(to, marks::holds(a, b, c))?,
+        Word::NoneAbove => say::truth(to, marks::none_above(a, b, c))?,
+        Word::Divisor => say::answer(to, circle::divisor(a, b))?,
+        Word::ResendFrom => circles::resend_from(to, args)?,
     }
     Ok(())
-}
-
-// The clusters after the line, whose answer is written.
-fn run_line(to: &mut impl Write, s: Sides, line: &[u8]) -> io::Result<Sides> {
-    let mut args = input::no_numbers();
-    let n = input::numbers(line, &mut args);
-    let word = words::word_of(line);
-    say::text(to, line)?;
-    clusters::asked(to, s.sending, word, &args, n)?;
-    pairs::asked(to, s, word, &args)?;
-    bytes::asked(to, &args, word, n)?;
-    plans::asked(to, &args, word)?;
-    number_case(to, word, &args)?;
-    say::text(to, b"\n")?;
-    Ok(sides_after(s, side_named(line), &args, n))
 }
 
 pub(crate) fn run_all(to: &mut impl Write, cases: &[u8]) -> io::Result<()> {
-    let mut s = no_sides();
-    let mut start = 0;
-    while start < cases.len() {
-        let end = start + line_length(cases, start);
-        s = run_line(to, s, &cases[start..end])?;
-        if cases.len() <= end {
-            return Ok(());
-        }
-        start = end + 1;
-    }
-    Ok(())
+    let mut sides = no_sides();
+    run_each(to, cases, |to, line| match word_of(line) {
+        Some(word) => answer(to, &mut sides, word, &Numbers::of(line)),
+        None => Ok(()),
+    })
 }

@@ -1,10 +1,11 @@
 // Writing the verdicts: each into the part of the lent output that is not yet written.
-ghost use Rattle.std.specs.Prelude.{◌≡◌, cond, ◌++◌, ℕ, ◌+◌, ◌≤◌, ◌<◌, length, take, drop, get_or};
+ghost use Rattle.std.specs.Prelude.{◌≡◌, cond, ◌++◌, ℕ, ◌+◌, ◌%◌, ◌≤◌, ◌<◌, length, take, drop, get_or};
 ghost use Rattle.hamilton.specs.Hamilton.{Dealable};
 ghost use Rattle.circle.specs.Positions.{Sized};
-ghost use Rattle.circle.specs.TurnTable.{TurnTable};
 ghost use Rattle.verdicts.specs.Written.{verdict_bytes, verdict_from, verdicts_to, verdicts_of, verdict_count, Ready, Writing};
 
+use circle::Table;
+use deal::Dealer;
 use downstream::{Cluster, Downstream, counts_of};
 
 // The 16 bytes of a verdict at the start of a part; what lies behind them stays.
@@ -20,28 +21,13 @@ fn put_verdict(part: &mut [u8], k: u64, sender: u32, receiver: u32, n: u32)
 }
 
 // The verdict on message k, whose first copy member i sent, behind the bytes already written, where it is due; and where the next one goes.
-fn put_due(
-    out: &mut [u8],
-    at: usize,
-    due: bool,
-    ss: &[u32],
-    rs: &[u32],
-    senders: &[u32],
-    receivers: &[u32],
-    begins: &[u32],
-    steps: u32,
-    i: u32,
-    k: u64,
-    count: u32,
-) -> usize
-    requires room { (at + 16 ≤ length out.old) × (Sized ss.now) × (Sized rs.now) × (i < length ss.now) × (count ≤ 255) }
-    requires turn_table { TurnTable ss.now rs.now senders.now receivers.now begins.now steps }
-    ensures { (result ≡ cond due (at + 16) at) × (out.new ≡ cond due (take at out.old ++ (verdict_from ss.now rs.now i k (count + 1) ++ drop (at + 16) out.old)) out.old) }
+fn put_due(out: &mut [u8], at: usize, due: bool, table: &Table, i: u32, k: u64, count: u32) -> usize
+    requires { (at + 16 ≤ length out.old) × (i < length table.now.ss.now) × (count ≤ 255) }
+    ensures { (result ≡ cond due (at + 16) at) × (out.new ≡ cond due (take at out.old ++ (verdict_from table.now.ss.now table.now.rs.now i k (count + 1) ++ drop (at + 16) out.old)) out.old) }
 {
     if due {
         let n = count + 1;
-        let first = i as usize;
-        let ends = circle::ends_in_turn(ss, rs, senders, receivers, begins, steps, first, n);
+        let ends = table.ends(i as usize, n);
         put_verdict(&mut out[at..], k, ends.sender, ends.receiver, n);
         return at + 16;
     }
@@ -49,79 +35,33 @@ fn put_due(
 }
 
 // The verdicts on those of the n messages after p that are due, one after another; and how many bytes they take. The messages' slots are
-// dealt one after another as well.
+// dealt one after another as well, from that of the first.
 fn put_verdicts(
     out: &mut [u8],
     due: u64,
-    ss: &[u32],
-    rs: &[u32],
-    slots: &[u32],
-    senders: &[u32],
-    receivers: &[u32],
-    begins: &[u32],
-    steps: u32,
-    q: u32,
+    table: &Table,
+    mut dealer: Dealer,
     counts: &[u64; 64],
     p: u64,
     n: u64,
 ) -> usize
-    requires room { (1024 ≤ length out.old) × (Ready ss.now rs.now slots.now q) × (p ≤ 1000000000000) × (n ≤ 64) × ((j : ℕ) → get_or counts.now j 0 ≤ 255) }
-    requires turn_table { TurnTable ss.now rs.now senders.now receivers.now begins.now steps }
-    ensures { (result ≡ length (verdicts_to ss.now rs.now q due counts.now p n)) × (out.new ≡ verdicts_to ss.now rs.now q due counts.now p n ++ drop result out.old) }
+    requires room { 1024 ≤ length out.old }
+    requires ready { (Ready table.now.ss.now table.now.rs.now dealer.counts.now dealer.q) × (dealer.slot ≡ p % dealer.q) }
+    requires open { (p ≤ 1000000000000) × (n ≤ 64) × ((j : ℕ) → get_or counts.now j 0 ≤ 255) }
+    ensures { (result ≡ length (verdicts_to table.now.ss.now table.now.rs.now dealer.entry.q due counts.now p n)) × (out.new ≡ verdicts_to table.now.ss.now table.now.rs.now dealer.entry.q due counts.now p n ++ drop result out.old) }
 {
     let mut at: usize = 0;
-    let mut dealer = deal::dealer_at(slots, q, (p % (q as u64)) as u32);
-    let mut o: u64 = 0;
-    while o < n {
+    for o in 0..n {
         let place = ((p + o) % 64) as usize;
         let count = counts[place] as u32;
         let marked = marks::is_marked(due, o);
-        let turn = deal::fallen(slots, q, dealer);
-        at = put_due(
-            out,
-            at,
-            marked,
-            ss,
-            rs,
-            senders,
-            receivers,
-            begins,
-            steps,
-            turn.member,
-            p + 1 + o,
-            count,
-        );
-        dealer = deal::after(slots, q, turn);
-        o += 1;
+        let sender = dealer.deal();
+        at = put_due(out, at, marked, table, sender, p + 1 + o, count);
     }
     at
 }
 
-// The same, the table of one turn being made once for all of them.
-fn verdicts_in_turn(
-    out: &mut [u8],
-    due: u64,
-    ss: &[u32],
-    rs: &[u32],
-    slots: &[u32],
-    q: u32,
-    counts: &[u64; 64],
-    p: u64,
-    n: u64,
-) -> usize
-    requires { (1024 ≤ length out.old) × (Ready ss.now rs.now slots.now q) × (p ≤ 1000000000000) × (n ≤ 64) × ((j : ℕ) → get_or counts.now j 0 ≤ 255) }
-    ensures { (result ≡ length (verdicts_to ss.now rs.now q due counts.now p n)) × (out.new ≡ verdicts_to ss.now rs.now q due counts.now p n ++ drop result out.old) }
-{
-    let mut senders = [0u32; 128];
-    let mut receivers = [0u32; 128];
-    let mut begins = [128u32; 64];
-    let steps = circle::fill_turn(ss, rs, &mut senders, &mut receivers, &mut begins);
-    put_verdicts(
-        out, due, ss, rs, slots, &senders, &receivers, &begins, steps, q, counts, p, n,
-    )
-}
-
-// The same, between clusters with these shares.
+// The same, between clusters with these shares, the table of one turn being made once for all of them.
 // inner: for the report step, which knows what is due; its state may lie in words.
 pub fn verdicts_between(
     out: &mut [u8],
@@ -138,8 +78,10 @@ pub fn verdicts_between(
 {
     let mut places = [0u32; 64];
     hamilton::fill_counts(ss, q, &mut places);
+    let table = Table::of(ss, rs);
     let members = ss.len();
-    verdicts_in_turn(out, due, ss, rs, &places[..members], q, counts, p, n)
+    let dealer = Dealer::at(&places[..members], q, (p % (q as u64)) as u32);
+    put_verdicts(out, due, &table, dealer, counts, p, n)
 }
 
 // The verdicts on the messages up to S, those that are due being known; and how many there are. Where none is due, nothing is counted out.

@@ -12,7 +12,6 @@ use Rattle.circle.proofs.CircleLaws.{sized}
 use Rattle.downstream.specs.declared.state.Cluster.{Cluster}
 use Rattle.downstream.specs.declared.state.Downstream.{Downstream}
 use Rattle.window.specs.declared.state.Window.{Window}
-use Rattle.window.specs.declared.reporting.ReportAnswer.{ReportAnswer}
 use Rattle.window.specs.declared.reporting.Step.{Step}
 use Rattle.downstream.specs.State.{shares_of}
 use Rattle.downstream.specs.Formed.{cluster_kept}
@@ -20,7 +19,7 @@ use Rattle.judging.specs.Complaints.{taken_of, Taking}
 use Rattle.judging.specs.Verdicts.{due_of, judged_of, Judging}
 use Rattle.verdicts.specs.Written.{verdicts_of, verdict_count, Writing}
 use Rattle.window.specs.Reporting.{report_refusal, Reportable}
-use Rattle.window.specs.Answers.{step_of, step_out, with_downstream, report_of, report_out}
+use Rattle.window.specs.Answers.{step_of, step_out, with_downstream, report_of, report_out, ReportAnswer}
 use Rattle.downstream.proofs.FormedLaws.{kept_cluster, cluster_few, cluster_accepted}
 use Rattle.judging.proofs.Accepted.{may_take}
 use Rattle.judging.proofs.Kept.{may_judge}

@@ -6,9 +6,8 @@ use native.Mathlib.Omega.{arith}
 use borrow.Author.Tests.{eq-eqb, ne_eqb}
 use Rattle.basics.specs.Checks.{first_failing}
 use Rattle.window.specs.declared.state.Window.{Window}
-use Rattle.window.specs.declared.sending.SendAnswer.{SendAnswer}
 use Rattle.window.specs.Formed.{well_formed}
-use Rattle.window.specs.Sending.{next_refusal, send_refusal, send_of, with_sent}
+use Rattle.window.specs.Sending.{next_refusal, send_refusal, send_of, with_sent, SendAnswer}
 use Rattle.downstream.proofs.FormedLaws.{kept_span, span_limit, span_order}
 use Rattle.window.proofs.FormedLaws.{formed_down}
 

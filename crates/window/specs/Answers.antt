@@ -1,9 +1,11 @@
 -- The whole answer of a report, and every byte of the output that was lent to it. Assumes nothing.
-use Rattle.std.specs.Prelude.{cond, List, ◌++◌, ℕ, eqb, length, drop}
+use Rattle.std.specs.Prelude.{cond, Result, Ok, Err, List, ◌++◌, ℕ, eqb, length, drop}
 use Rattle.downstream.specs.declared.state.Cluster.{Cluster}
 use Rattle.downstream.specs.declared.state.Downstream.{Downstream}
 use Rattle.window.specs.declared.state.Window.{Window}
-use Rattle.window.specs.declared.reporting.ReportAnswer.{ReportAnswer}
+use Rattle.basics.specs.declared.refusal.Refusal.{Refusal}
+use Rattle.basics.specs.Refusals.{outcome_number}
+use Rattle.window.specs.declared.reporting.ReportAnswer as code
 use Rattle.window.specs.declared.reporting.Step.{Step}
 use Rattle.judging.specs.Complaints.{taken_of}
 use Rattle.judging.specs.Verdicts.{judged_of}
@@ -23,6 +25,12 @@ step_out sending q d s i c mask out =
 abbrev pub with_downstream : Window → Downstream → Window
 with_downstream w d = record { sending = w.sending; quantum = w.quantum; sent = w.sent; downstream = d }
 
+-- a refusal's number, 0 for none, how many verdicts were written, and a state
+pub record ReportAnswer : Type 0 where
+  pub refusal : ℕ
+  pub verdicts : ℕ
+  pub window : Window
+
 -- an accepted report's step; a refusal leaves the state and every byte as they were
 unfoldable pub report_of : Window → ℕ → ℕ → ℕ → ℕ → ReportAnswer
 report_of w i c mask room =
@@ -35,3 +43,11 @@ report_out w i c mask out =
     cond (eqb (report_refusal w i c mask (length out)) 0)
     (step_out w.sending w.quantum w.downstream w.sent i c mask out)
     out
+
+-- the same of what the call hands back: a refused report writes none
+abbrev pub written : Result ℕ Refusal → ℕ
+written (Ok n) = n
+written (Err x) = 0
+
+abbrev pub told : code.ReportAnswer → ReportAnswer
+told a = record { refusal = outcome_number a.outcome; verdicts = written a.outcome; window = a.window }

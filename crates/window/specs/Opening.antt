@@ -1,7 +1,8 @@
 -- Opening a window for two clusters and a quantum: 1, 2, 3 of the sending cluster, then of the receiving, 4. Assumes nothing.
 use Rattle.std.specs.Prelude.{cond, List, ◌++◌, ℕ, ◌-◌, eqb, length, replicate}
 use Rattle.deal.specs.Pairs.{pair_refusal}
-use Rattle.window.specs.declared.opening.OpenAnswer.{OpenAnswer}
+use Rattle.basics.specs.Refusals.{outcome_number}
+use Rattle.window.specs.declared.opening.OpenAnswer as code
 use Rattle.downstream.specs.declared.state.Cluster.{Cluster}
 use Rattle.downstream.specs.declared.state.Downstream.{Downstream}
 use Rattle.window.specs.declared.state.Window.{Window}
@@ -26,9 +27,18 @@ no_cluster = record { members = 0; u = 0; r = 0; shares = replicate 64 0 }
 abbrev pub no_window : Window
 no_window = window_from no_cluster no_cluster 0
 
+-- a refusal's number, 0 for none, and a state
+pub record OpenAnswer : Type 0 where
+  pub refusal : ℕ
+  pub window : Window
+
 -- a refused opening hands back a state of zeros
 unfoldable pub open_of : List ℕ → ℕ → ℕ → List ℕ → ℕ → ℕ → ℕ → OpenAnswer
 open_of ss su sr rs ru rr q =
     cond (eqb (pair_refusal ss su sr rs ru rr q) 0)
     (record { refusal = 0; window = window_from (cluster_from ss su sr) (cluster_from rs ru rr) q })
     (record { refusal = pair_refusal ss su sr rs ru rr q; window = no_window })
+
+-- the same of what the call hands back
+abbrev pub told : code.OpenAnswer → OpenAnswer
+told a = record { refusal = outcome_number a.outcome; window = a.window }

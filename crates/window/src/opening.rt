@@ -1,14 +1,16 @@
 // Opening a window.
 ghost use Rattle.std.specs.Prelude.{◌≡◌, ◌++◌, ◌-◌, ◌≤◌, length, replicate};
-ghost use Rattle.window.specs.Opening.{cluster_from, window_from, no_cluster, no_window, open_of};
+ghost use Rattle.window.specs.Opening.{cluster_from, window_from, no_cluster, no_window, open_of, told};
 
 use crate::state::Window;
+use basics::Refusal;
 use downstream::{Cluster, Downstream, Entry, Report};
 
-// The number of the refusal, 0 for none, and the state: of zeros where the opening is refused.
+// Whether the opening is accepted, and the state: of zeros where it is refused, as document 01 hands it back, so that no `Result` of the
+// state would do.
 #[derive(Clone, Copy)]
 pub struct OpenAnswer {
-    pub refusal: u32,
+    pub outcome: Result<(), Refusal>,
     pub window: Window,
 }
 
@@ -17,12 +19,8 @@ fn places(shares: &[u32]) -> [u32; 64]
     requires { length shares.now ≤ 64 }
     ensures { result ≡ shares.now ++ replicate (64 - length shares.now) 0 }
 {
-    let mut places = [0u32; 64];
-    let mut i = 0;
-    while i < shares.len() {
-        places[i] = shares[i];
-        i += 1;
-    }
+    let mut places = [0; 64];
+    places[..shares.len()].copy_from_slice(shares);
     places
 }
 
@@ -31,13 +29,11 @@ fn cluster_from(shares: &[u32], u: u32, r: u32) -> Cluster
     requires { length shares.now ≤ 64 }
     ensures { result ≡ cluster_from shares.now u r }
 {
-    let members = shares.len() as u32;
-    let kept = places(shares);
     Cluster {
-        members,
+        members: shares.len() as u32,
         u,
         r,
-        shares: kept,
+        shares: places(shares),
     }
 }
 
@@ -45,20 +41,11 @@ fn cluster_from(shares: &[u32], u: u32, r: u32) -> Cluster
 fn window_from(sending: Cluster, receiving: Cluster, quantum: u32) -> Window
     ensures { result ≡ window_from sending receiving quantum }
 {
-    let reports = [Report {
-        number: 0,
-        mask: 0,
-        heard: false,
-    }; 64];
-    let entries = [Entry {
-        count: 0,
-        complaints: 0,
-    }; 64];
     let downstream = Downstream {
         cluster: receiving,
         point: 0,
-        reports,
-        entries,
+        reports: [Report::default(); 64],
+        entries: [Entry::default(); 64],
     };
     Window {
         sending,
@@ -68,16 +55,15 @@ fn window_from(sending: Cluster, receiving: Cluster, quantum: u32) -> Window
     }
 }
 
-// The clusters of a state of zeros.
+// The clusters of a state of zeros, written out under the definition's name.
 fn no_cluster() -> Cluster
     ensures { result ≡ no_cluster }
 {
-    let shares = [0u32; 64];
     Cluster {
         members: 0,
         u: 0,
         r: 0,
-        shares,
+        shares: [0; 64],
     }
 }
 
@@ -99,16 +85,22 @@ impl Window {
         rr: u32,
         quantum: u32,
     ) -> OpenAnswer
-        ensures { result ≡ open_of ss.now su sr rs.now ru rr quantum }
+        ensures { told result ≡ open_of ss.now su sr rs.now ru rr quantum }
     {
-        let refusal = deal::pair_refusal(ss, su, sr, rs, ru, rr, quantum);
-        if refusal != 0 {
-            let window = no_window();
-            return OpenAnswer { refusal, window };
+        match deal::pair_refusal(ss, su, sr, rs, ru, rr, quantum) {
+            Err(refusal) => OpenAnswer {
+                outcome: Err(refusal),
+                window: no_window(),
+            },
+            Ok(()) => {
+                let sending = cluster_from(ss, su, sr);
+                let receiving = cluster_from(rs, ru, rr);
+                let window = window_from(sending, receiving, quantum);
+                OpenAnswer {
+                    outcome: Ok(()),
+                    window,
+                }
+            }
         }
-        let sending = cluster_from(ss, su, sr);
-        let receiving = cluster_from(rs, ru, rr);
-        let window = window_from(sending, receiving, quantum);
-        OpenAnswer { refusal: 0, window }
     }
 }

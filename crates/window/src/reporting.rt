@@ -1,18 +1,20 @@
 // Reports.
 ghost use Rattle.std.specs.Prelude.{◌≡◌, length};
+ghost use Rattle.basics.specs.Refusals.{outcome_number};
 ghost use Rattle.downstream.specs.State.{report_at};
 ghost use Rattle.window.specs.Reporting.{report_refusal, Reportable};
-ghost use Rattle.window.specs.Answers.{step_of, step_out, report_of, report_out};
+ghost use Rattle.window.specs.Answers.{step_of, step_out, report_of, report_out, told};
 
 use crate::refusing::given_refusal;
 use crate::state::Window;
+use basics::Refusal;
 use downstream::{Cluster, Downstream, Report};
 
-// The number of the refusal, 0 for none, how many verdicts were written, and the next state.
+// How many verdicts were written, or why the report is refused, and the next state: the given one where it is refused, in an answer struct as
+// document 01 names it.
 #[derive(Clone, Copy)]
 pub struct ReportAnswer {
-    pub refusal: u32,
-    pub verdicts: u32,
+    pub outcome: Result<u32, Refusal>,
     pub window: Window,
 }
 
@@ -20,29 +22,19 @@ pub struct ReportAnswer {
 fn former_of(reports: [Report; 64], i: u32) -> Report
     ensures { result ≡ report_at reports i }
 {
-    let at = i as usize;
-    if at < 64 {
-        reports[at]
-    } else {
-        Report {
-            number: 0,
-            mask: 0,
-            heard: false,
-        }
-    }
+    reports.get(i as usize).copied().unwrap_or_default()
 }
 
-// The refusal that a report gets: 17, 5, 8, 12, 11, 13 in this order, 0 for none.
-fn report_refusal(w: Window, i: u32, c: u64, mask: u64, room: usize) -> u32
-    ensures { result ≡ report_refusal w i c mask room }
+// The refusal that a report gets: 17, 5, 8, 12, 11, 13 in this order.
+fn report_refusal(w: Window, i: u32, c: u64, mask: u64, room: usize) -> Result<(), Refusal>
+    ensures { outcome_number result ≡ report_refusal w i c mask room }
 {
     if !w.well_formed() {
-        return 17;
+        return Err(Refusal::IllFormed);
     }
     let d = w.downstream;
-    let members = d.cluster.members as u64;
-    let reports = d.reports;
-    let former = former_of(reports, i);
+    let members = u64::from(d.cluster.members);
+    let former = former_of(d.reports, i);
     given_refusal(members, w.sent, former, i, c, mask, room)
 }
 
@@ -80,32 +72,30 @@ fn step_of(
 impl Window {
     // Takes a report from a member: its cumulative number and its mask. Verdicts go into the lent output, one after another.
     pub fn report(mut self, member: u32, number: u64, mask: u64, out: &mut [u8]) -> ReportAnswer
-        ensures { (result ≡ report_of self member number mask (length out.old)) × (out.new ≡ report_out self member number mask out.old) }
+        ensures { (told result ≡ report_of self member number mask (length out.old)) × (out.new ≡ report_out self member number mask out.old) }
     {
-        let refusal = report_refusal(self, member, number, mask, out.len());
-        if refusal != 0 {
-            return ReportAnswer {
-                refusal,
-                verdicts: 0,
+        match report_refusal(self, member, number, mask, out.len()) {
+            Err(refusal) => ReportAnswer {
+                outcome: Err(refusal),
                 window: self,
-            };
-        }
-        let s = step_of(
-            self.sending,
-            self.quantum,
-            self.sent,
-            self.downstream,
-            member,
-            number,
-            mask,
-            out,
-        );
-        let next = s.downstream;
-        self.downstream = next;
-        ReportAnswer {
-            refusal: 0,
-            verdicts: s.verdicts,
-            window: self,
+            },
+            Ok(()) => {
+                let step = step_of(
+                    self.sending,
+                    self.quantum,
+                    self.sent,
+                    self.downstream,
+                    member,
+                    number,
+                    mask,
+                    out,
+                );
+                self.downstream = step.downstream;
+                ReportAnswer {
+                    outcome: Ok(step.verdicts),
+                    window: self,
+                }
+            }
         }
     }
 }

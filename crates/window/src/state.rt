@@ -1,7 +1,7 @@
 // The state, as a struct by value.
 use downstream::{Cluster, Downstream};
 
-#[derive(Clone, Copy)]
+#[derive(Clone, Copy, PartialEq, Eq)]
 pub struct Window {
     pub sending: Cluster,
     pub quantum: u32,

@@ -15,12 +15,11 @@ use Rattle.basics.specs.Sums.{all_below, sum_below, list_below}
 use Rattle.basics.specs.Checks.{first_failing}
 use Rattle.basics.proofs.BitLaws.{or_below}
 use Rattle.basics.proofs.BoolLaws.{and_true, and_right, and_not_left, and_not_right, or_left, or_right, same_test, either, no_both}
-use Rattle.basics.proofs.SumLaws.{all_at, all_of, all_cong, all_done, sum_done, sum_cong, list_at, length_list}
+use Rattle.basics.proofs.SumLaws.{all_at, all_of, all_cong, sum_cong, list_at, length_list}
 use Rattle.shares.specs.Shares.{total_of}
 use Rattle.shares.specs.Cluster.{is_share, members_fit, shares_fit, bounds_fit, cluster_refusal}
 use Rattle.downstream.specs.Formed.{places_zero, cluster_kept}
 use Rattle.words.specs.Taken.{word_at, none_above, column_at, cluster_at}
-use Rattle.words.proofs.FitLaws.{none_at}
 
 -- ---- one share
 high_zero : (x : ℕ) → eqb (x / 2 ^ 63) 0 ≡ ltb x 9223372036854775808
@@ -41,8 +40,8 @@ share_range x h =
     (λ t. le-leb x 1000000 (omega (arith, ltb-true (x + 9223372036853775807) 9223372036854775808 t)))
     (λ t. lt-ltb (x + 9223372036853775807) 9223372036854775808 (omega (arith, leb-true x 1000000 t))))
 
-pub share_told : (x y : ℕ) → x ≡ y → x ≤ 4294967295 → eqb (bit_or (9223372036854775808 - x) (x + 9223372036853775807) / 2 ^ 63) 0 ≡ is_share y
-share_told x y e h = high_zero (bit_or (9223372036854775808 - x) (x + 9223372036853775807)) ∙ share_range x h ∙ ap is_share e
+pub share_told : (x : ℕ) → x ≤ 4294967295 → eqb (bit_or (9223372036854775808 - x) (x + 9223372036853775807) / 2 ^ 63) 0 ≡ is_share x
+share_told x h = high_zero (bit_or (9223372036854775808 - x) (x + 9223372036853775807)) ∙ share_range x h
 
 -- ---- the first n shares of a column
 module _ (ws : List ℕ) (at n : ℕ) (few : n ≤ 64) where
@@ -68,17 +67,6 @@ module _ (ws : List ℕ) (at n : ℕ) (few : n ≤ 64) where
   total_in_words = sym (
       ap (λ (m : ℕ). sum_below m (λ i. get_or shares i 0)) shares_length
       ∙ sum_cong (λ i. get_or shares i 0) (λ i. word_at ws (at + i)) n shares_at)
-
--- ---- the loops over them
-pub share_narrow : (ws : List ℕ) (at n i : ℕ) → none_above ws at n 4294967295 ≡ true → i < n → word_at ws (at + i) ≤ 4294967295
-share_narrow ws at n i h l = none_at ws at n 4294967295 h i l
-
-module _ (ws : List ℕ) (at : ℕ) where
-  pub fits_done : (i n off : ℕ) → eqb off 0 ≡ all_below i (λ j. is_share (word_at ws (at + j))) → i ≤ n → n ≤ i → n ≤ 64 → eqb off 0 ≡ shares_fit (take n (column_at ws at))
-  fits_done i n off e a b few = all_done (λ j. is_share (word_at ws (at + j))) {i = i} {n = n} e a b ∙ fit_in_words ws at n few
-
-  pub total_done : (i n sum : ℕ) → sum ≡ sum_below i (λ j. word_at ws (at + j)) → i ≤ n → n ≤ i → n ≤ 64 → sum ≡ total_of (take n (column_at ws at))
-  total_done i n sum e a b few = sum_done (λ j. word_at ws (at + j)) {i = i} {n = n} e a b ∙ total_in_words ws at n few
 
 -- ---- the bounds
 module _ (s : List ℕ) (u r d : ℕ) (e : d ≡ total_of s) where

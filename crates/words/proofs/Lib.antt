@@ -2,6 +2,7 @@
 pub mod ColumnLaws
 pub mod StraightLaws
 pub mod ClusterLaws
+pub mod SpanLaws
 pub mod ReportLaws
 pub mod PointLaws
 pub mod EntryLaws

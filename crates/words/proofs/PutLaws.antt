@@ -1,15 +1,15 @@
 -- Parts that are put one behind the other fill what was lent. Assumes nothing.
 use mathlib.Core.Path.{◌≡◌, refl, ap, ap₂, sym, ◌∙◌}
 use mathlib.Core.List.{List, [], ◌∷◌, ◌++◌, append-nil, append_assoc}
-use Prim.Native.Nat.{ℕ, zero, suc, ◌+◌, ◌-◌, ◌≤◌, ◌<◌}
+use Prim.Native.Nat.{ℕ, zero, suc, ◌+◌, ◌-◌, ◌≤◌}
 use native.Mathlib.Nat.{zero-add, add-zero, add-suc}
 use native.Mathlib.Omega.{arith}
-use lib.ListN.{length, take, drop, take-append-drop, set, get_or, replicate, drop_of_length-le, length-append, get_or-eq_default}
-use lib.Seq.{sets, sets-eq, drop_at, length-take-le}
+use lib.ListN.{length, take, drop, take-append-drop, get_or, replicate, drop_of_length-le, length-append, get_or-eq_default}
+use lib.Seq.{drop_at, length-take-le}
 use borrow.Rule.Slice.PartMut.{mid_of, put_mid}
 use Rattle.basics.proofs.PartLaws.{put_next}
 use Rattle.basics.specs.Sums.{list_below}
-use Rattle.basics.proofs.SumLaws.{length_list, list_at, list_is, list_turn}
+use Rattle.basics.proofs.SumLaws.{length_list, list_at, list_is}
 use Rattle.downstream.specs.declared.state.Cluster.{Cluster}
 use Rattle.downstream.specs.declared.state.Report.{Report}
 use Rattle.downstream.specs.State.{no_report, no_entry, report_at, numbers_of, masks_of, counts_of, complaints_of}
@@ -42,13 +42,6 @@ behind s y a k e =
     ∙ ap (λ (n : ℕ). mid_of a k (y ++ drop n s)) (zero-add a)
     ∙ ap (take k) (drop_at y (drop a s) a e)
 
--- as many words as there are places, stored one behind the other
-sets_all : (vs s : List ℕ) → length s ≡ length vs → sets s 0 vs ≡ vs
-sets_all vs s e = sets-eq vs s 0 (omega (arith, e, zero-add (length vs))) ∙ ap (λ (n : ℕ). vs ++ drop n s) (zero-add (length vs)) ∙ full vs s (length vs) e
-
-pub three_set : (a b c : ℕ) (s : List ℕ) → length s ≡ 3 → set (set (set s 0 a) 1 b) 2 c ≡ a ∷ b ∷ c ∷ []
-three_set a b c s e = sets_all (a ∷ b ∷ c ∷ []) s e
-
 length_shares : (c : Cluster) → length (shares_words c) ≡ 64
 unfolding shares_words
 length_shares c = length_list (λ i. get_or c.shares i 0) 64
@@ -60,16 +53,16 @@ shares_put shares u r =
     list_is (λ i. get_or (shares ++ replicate (64 - length shares) 0) i 0) 0 64 (list_below 64 (λ i. get_or shares i 0)) (length_list (λ i. get_or shares i 0) 64)
     (λ i l. list_at (λ j. get_or shares j 0) 0 64 i l ∙ sym (padded shares (64 - length shares) i))
 
-pub cluster_put : (shares : List ℕ) (u r : ℕ) (s y z : List ℕ) → length s ≡ 67 → z ≡ list_below 64 (λ i. get_or shares i 0) → y ≡ length shares ∷ u ∷ r ∷ []
+pub cluster_put : (shares : List ℕ) (u r : ℕ) (s y z : List ℕ) → length s ≡ 67 → z ≡ list_below 64 (λ i. get_or shares i 0) → (v w : ℕ) → y ≡ length shares ∷ v ∷ w ∷ [] → v ≡ u → w ≡ r
     → put_mid 0 3 (put_mid 3 64 s z) y ≡ cluster_words (cluster_from shares u r)
 unfolding cluster_words
-cluster_put shares u r s y z l e d =
+cluster_put shares u r s y z l e v w d f g =
     let ly : length y ≡ 3 = ap length d in
     let lz : length z ≡ 64 = ap length e ∙ length_list (λ i. get_or shares i 0) 64 in
     let lt : length (take 3 s) ≡ 3 = length-take-le 3 s (omega (arith, l)) in
     let one : put_mid 3 64 s z ≡ (take 3 s ++ z) ++ drop 67 s = more (take 3 s) z s s 3 64 (sym (take-append-drop 3 s)) lt lz in
     let rest : drop 3 (put_mid 3 64 s z) ≡ z = ap (drop 3) (one ∙ full (take 3 s ++ z) s 67 l) ∙ drop_at (take 3 s) z 3 lt in
-    put_next [] y (put_mid 3 64 s z) 0 3 refl ly ∙ rw (rest, d, e, shares_put shares u r)
+    put_next [] y (put_mid 3 64 s z) 0 3 refl ly ∙ rw (rest, d, e, shares_put shares u r, f, g)
 
 pub length_cluster : (c : Cluster) → length (cluster_words c) ≡ 67
 unfolding cluster_words
@@ -94,15 +87,6 @@ length_reports l =
     ∙ omega (arith, length-append (numbers_of l) (masks_of l), length_numbers l, length_masks l, length_heard l)
 
 -- ---- zeros
-pub zeros_turn : (i : ℕ) {l : List ℕ} (o : List ℕ) → l ≡ list_below i (λ _. 0) ++ drop i o → (n : ℕ) → i < n → length l ≡ n → length o ≡ n → set l i 0 ≡ list_below (i + 1) (λ _. 0) ++ drop (i + 1) o
-zeros_turn i {l} o e n h a b = list_turn (λ _. 0) {i = i} {v = 0} {l = l} o e (omega arith) (a ∙ sym b) refl
-
-pub zeros_done : (i n : ℕ) (l o : List ℕ) → l ≡ list_below i (λ _. 0) ++ drop i o → length o ≡ n → i ≤ n → n ≤ i → l ≡ zeros n
-unfolding zeros
-zeros_done i n l o e m a b =
-    let z : i ≡ n = omega arith in
-    e ∙ full (list_below i (λ _. 0)) o i (m ∙ sym z) ∙ ap (λ (j : ℕ). list_below j (λ _. 0)) z
-
 -- what is zero from a place on ends in zeros
 ends_in_zeros : (f : ℕ → ℕ) (i d : ℕ) → ((j : ℕ) → i ≤ j → f j ≡ 0) → list_below (i + d) f ≡ list_below i f ++ zeros d
 unfolding zeros list_below
@@ -128,9 +112,9 @@ none_there : drop 137 (zeros 457) ≡ report_words (replicate 64 no_report) ++ e
 unfolding zeros report_words entry_words numbers_of masks_of heard_of counts_of complaints_of list_below
 none_there = refl
 
-pub none_put : (l : List ℕ) → l ≡ zeros 457 → l ≡ words_of no_window
-unfolding zeros words_of cluster_words shares_words report_words entry_words numbers_of masks_of heard_of counts_of complaints_of list_below
-none_put l e = e
+pub none_put : (ws l : List ℕ) → length ws ≡ 457 → l ≡ replicate (length ws) 0 → l ≡ words_of no_window
+unfolding words_of cluster_words shares_words report_words entry_words numbers_of masks_of heard_of counts_of complaints_of list_below
+none_put ws l n e = rw n at e
 
 -- ---- parts of zeros
 none_zeros : (l : List ℕ) → l ≡ words_of no_window → l ≡ zeros 457
@@ -149,10 +133,10 @@ pub zeros_shares : (l : List ℕ) → l ≡ zeros 67 → mid_of 3 64 l ≡ zeros
 unfolding zeros list_below
 zeros_shares l e = rw e refl
 
-pub opened_put : (sending receiving : Cluster) (q : ℕ) (s a b c : List ℕ) → s ≡ words_of no_window → a ≡ cluster_words sending → b ≡ cluster_words receiving → c ≡ q ∷ 0 ∷ 0 ∷ []
+pub opened_put : (sending receiving : Cluster) (q : ℕ) (s a b c : List ℕ) → s ≡ words_of no_window → a ≡ cluster_words sending → b ≡ cluster_words receiving → (x : ℕ) → c ≡ x ∷ 0 ∷ 0 ∷ [] → x ≡ q
     → put_mid 134 3 (put_mid 67 67 (put_mid 0 67 s a) b) c ≡ words_of (window_from sending receiving q)
 unfolding words_of
-opened_put sending receiving q s a b c e ea eb ec =
+opened_put sending receiving q s a b c e ea eb x ec ex =
     let la : length a ≡ 67 = ap length ea ∙ length_cluster sending in
     let lb : length b ≡ 67 = ap length eb ∙ length_cluster receiving in
     let lc : length c ≡ 3 = ap length ec in
@@ -163,4 +147,4 @@ opened_put sending receiving q s a b c e ea eb ec =
     ∙ ap (λ (t : List ℕ). a ++ b ++ c ++ drop 137 t) (none_zeros s e)
     ∙ ap (λ (t : List ℕ). a ++ b ++ c ++ t) none_there
     ∙ sym (append_assoc (a ++ b ++ c) (report_words (replicate 64 no_report)) (entry_words (replicate 64 no_entry)))
-    ∙ rw (ea, eb, ec) refl
+    ∙ rw (ea, eb, ec, ex) refl

@@ -2,8 +2,7 @@
 use mathlib.Core.Path.{◌≡◌, refl, ap, ap₂, sym, ◌∙◌}
 use mathlib.Core.Bool.{Bool, ◌&&◌}
 use mathlib.Core.List.{List}
-use Prim.Native.Nat.{ℕ, zero, suc, ◌+◌, ◌-◌, ◌^◌, ◌≤◌}
-use native.Mathlib.Numerals.{add-one}
+use Prim.Native.Nat.{ℕ, zero, suc, ◌+◌, ◌-◌, ◌^◌}
 use native.Mathlib.Omega.{arith}
 use lib.Bits.{bit_or}
 use lib.Dec.{leb, ltb, eqb}
@@ -16,21 +15,6 @@ use Rattle.words.specs.Taken.{word_at, none_above}
 use Rattle.words.specs.Straight.{any_in}
 use Rattle.basics.specs.Sums.{all_below}
 use Rattle.basics.proofs.SumLaws.{all_turn}
-
--- ---- the loop: its start, a turn, its end
-module _ (ws : List ℕ) (from : ℕ) where
-  pub any_start : 0 ≡ any_in ws from 0
-  unfolding any_in
-  any_start = refl
-
-  pub any_turn : (i t x : ℕ) → t ≡ any_in ws from i → x ≡ word_at ws (from + i) → bit_or t x ≡ any_in ws from (i + 1)
-  unfolding any_in
-  any_turn i t x p q = rw (add-one, p, q)
-
-  pub any_done : (i n t : ℕ) → t ≡ any_in ws from i → i ≤ n → n ≤ i → t ≡ any_in ws from n
-  any_done i n t p a b = let e : i ≡ n = omega arith in rw e at p
-
-pub ruleset anys = (any_start, any_turn, any_done, rules)
 
 -- ---- what they say of the words
 below_most : (x k : ℕ) → ltb x (2 ^ k) ≡ leb x (2 ^ k - 1)

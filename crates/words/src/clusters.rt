@@ -1,4 +1,5 @@
-// Whether an accepted cluster stands in words, judged where it lies.
+// Whether an accepted cluster stands in words, judged where it lies. `shares` judges lent shares of 32 bits; C lends the state as words of 64,
+// which may be too large for a share, and then no sum is made of them.
 ghost use Rattle.std.specs.Prelude.{◌≡◌, true, ◌&&◌, ◌+◌, ◌*◌, ◌≤◌, ◌<◌, eqb, take};
 ghost use Rattle.shares.specs.Shares.{total_of};
 ghost use Rattle.shares.specs.Cluster.{is_share, shares_fit, bounds_fit};
@@ -7,20 +8,11 @@ ghost use Rattle.words.specs.Taken.{word_at, none_above, column_at, cluster_at};
 
 use crate::straight::{all_narrow, all_zero};
 
-// The share in place i of n from a place on.
-pub(crate) fn share_at(words: &[u64; 457], at: usize, n: usize, i: usize) -> u64
-    requires { (at + n ≤ 457) × (i < n) × (none_above words.now at n 4294967295 ≡ true) }
-    ensures { (result ≡ word_at words.now (at + i)) × (result ≤ 4294967295) }
-{
-    words[at + i]
-}
-
 // 0 for a share that is allowed: bit 63 is set in the first part for 0 alone, and in the second above 1,000,000.
-fn share_off(words: &[u64; 457], at: usize, n: usize, i: usize) -> u64
-    requires { (at + n ≤ 457) × (i < n) × (none_above words.now at n 4294967295 ≡ true) }
-    ensures { eqb result 0 ≡ is_share (word_at words.now (at + i)) }
+fn share_off(share: u64) -> u64
+    requires { share ≤ 4294967295 }
+    ensures { eqb result 0 ≡ is_share share }
 {
-    let share = share_at(words, at, n, i);
     ((9_223_372_036_854_775_808 - share) | (share + 9_223_372_036_853_775_807)) >> 63
 }
 
@@ -29,11 +21,9 @@ fn shares_fit(words: &[u64; 457], at: usize, n: usize) -> bool
     requires { (at + n ≤ 457) × (n ≤ 64) × (none_above words.now at n 4294967295 ≡ true) }
     ensures { result ≡ shares_fit (take n (column_at words.now at)) }
 {
-    let mut off: u64 = 0;
-    let mut i: usize = 0;
-    while i < n {
-        off = off | share_off(words, at, n, i);
-        i += 1;
+    let mut off = 0;
+    for share in &words[at..at + n] {
+        off |= share_off(*share);
     }
     off == 0
 }
@@ -43,13 +33,7 @@ fn total_at(words: &[u64; 457], at: usize, n: usize) -> u64
     requires { (at + n ≤ 457) × (n ≤ 64) × (none_above words.now at n 4294967295 ≡ true) }
     ensures { (result ≡ total_of (take n (column_at words.now at))) × (result ≤ 64 * 4294967295) }
 {
-    let mut sum: u64 = 0;
-    let mut i: usize = 0;
-    while i < n {
-        sum += share_at(words, at, n, i);
-        i += 1;
-    }
-    sum
+    words[at..at + n].iter().sum()
 }
 
 // Whether u and r are bounds that the n members of the cluster at a place bear. Above the total no u is one, and up to it no sum wraps.

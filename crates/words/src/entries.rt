@@ -7,7 +7,7 @@ ghost use Rattle.words.specs.Straight.{any_in};
 ghost use Rattle.words.specs.Entries.{closed_zero, counts_kept, sets_told, sets_kept};
 
 use crate::judgement::column_at;
-use crate::straight::{all_zero, any};
+use crate::straight::all_zero;
 
 // Whether a column of the entries is zero for every message that is not one of the n after p. Their places go round once: what is closed
 // lies before and behind the open ones, or between their two ends.
@@ -65,8 +65,8 @@ pub(crate) fn entries_kept(words: &[u64; 457], members: usize, p: u64, s: u64) -
     requires { (members ≤ 64) × (p ≤ 1000000000000) × (p ≤ s) × (s ≤ p + 64) }
     ensures { result ≡ entries_kept members (column_at words.now 137) (column_at words.now 201) (entries_in words.now) p s }
 {
-    let counts = any(words, 329, 64);
-    let sets = any(words, 393, 64);
+    let counts = marks::any_of(&words[329..393]);
+    let sets = marks::any_of(&words[393..457]);
     if counts | sets == 0 {
         return true;
     }

@@ -15,11 +15,7 @@ pub fn column_at(words: &[u64; 457], at: usize) -> [u64; 64]
     ensures { result ≡ column_at words.now at }
 {
     let mut column = [0u64; 64];
-    let mut i: usize = 0;
-    while i < 64 {
-        column[i] = words[at + i];
-        i += 1;
-    }
+    column.copy_from_slice(&words[at..at + 64]);
     column
 }
 

@@ -14,6 +14,7 @@ mod taking;
 pub use judgement::{column_at, formed};
 pub use opening::{put_none, put_opened};
 pub use point::reached;
+pub use reports::report_in;
 pub use sending::put_sent;
 pub use straight::all_zero;
 pub use taking::{cluster_at, quantum_in};

@@ -1,46 +1,16 @@
 // Putting the state of a window that is just opened: nothing sent, nothing reported.
-ghost use Rattle.std.specs.Prelude.{◌≡◌, [], ◌∷◌, ◌≤◌, length, get_or};
+ghost use Rattle.std.specs.Prelude.{◌≡◌, ◌≤◌, length, get_or};
 ghost use Rattle.basics.specs.Sums.{list_below};
 ghost use Rattle.window.specs.Opening.{cluster_from, window_from, no_window};
 ghost use Rattle.words.specs.Put.{zeros, cluster_words, words_of};
-
-fn put_zeros(n: usize, out: &mut [u64])
-    requires { length out.old ≡ n }
-    ensures { out.new ≡ zeros n }
-{
-    let mut i: usize = 0;
-    while i < n {
-        out[i] = 0;
-        i += 1;
-    }
-}
-
-// All words at once, which takes less time than part by part.
-fn put_zeros_in(out: &mut [u64])
-    requires { length out.old ≡ 457 }
-    ensures { out.new ≡ zeros 457 }
-{
-    put_zeros(457, out);
-}
-
-fn put_three(a: u64, b: u64, c: u64, out: &mut [u64])
-    requires { length out.old ≡ 3 }
-    ensures { out.new ≡ a ∷ b ∷ c ∷ [] }
-{
-    out[0] = a;
-    out[1] = b;
-    out[2] = c;
-}
 
 // The lent shares; past their end the places stay zero.
 fn put_shares(shares: &[u32], out: &mut [u64])
     requires { (length shares.now ≤ 64) × (length out.old ≡ 64) × (out.old ≡ zeros 64) }
     ensures { out.new ≡ list_below 64 (λ i. get_or shares.now i 0) }
 {
-    let mut i: usize = 0;
-    while i < shares.len() {
-        out[i] = basics::wide(shares[i]);
-        i += 1;
+    for (i, share) in shares.iter().enumerate() {
+        out[i] = u64::from(*share);
     }
 }
 
@@ -49,23 +19,14 @@ fn put_cluster(shares: &[u32], u: u32, r: u32, out: &mut [u64])
     ensures { out.new ≡ cluster_words (cluster_from shares.now u r) }
 {
     put_shares(shares, &mut out[3..67]);
-    put_three(shares.len() as u64, u as u64, r as u64, &mut out[0..3]);
+    out[0..3].copy_from_slice(&[shares.len() as u64, u64::from(u), u64::from(r)]);
 }
 
-fn put_parts(ss: &[u32], su: u32, sr: u32, rs: &[u32], ru: u32, rr: u32, q: u32, out: &mut [u64])
-    requires { (length ss.now ≤ 64) × (length rs.now ≤ 64) × (length out.old ≡ 457) × (out.old ≡ words_of no_window) }
-    ensures { out.new ≡ words_of (window_from (cluster_from ss.now su sr) (cluster_from rs.now ru rr) q) }
-{
-    put_cluster(ss, su, sr, &mut out[0..67]);
-    put_cluster(rs, ru, rr, &mut out[67..134]);
-    put_three(q as u64, 0, 0, &mut out[134..137]);
-}
-
-// The words of a refused opening.
+// The words of a refused opening: all at once, which takes less time than part by part.
 pub fn put_none(words: &mut [u64; 457])
     ensures { words.new ≡ words_of no_window }
 {
-    put_zeros_in(words);
+    words.fill(0);
 }
 
 // The words of a window between two clusters that is just opened, put into those of no window: only what is not zero need be put then.
@@ -83,5 +44,7 @@ pub fn put_opened(
     requires { (length ss.now ≤ 64) × (length rs.now ≤ 64) × (words.old ≡ words_of no_window) }
     ensures { words.new ≡ words_of (window_from (cluster_from ss.now su sr) (cluster_from rs.now ru rr) q) }
 {
-    put_parts(ss, su, sr, rs, ru, rr, q, words);
+    put_cluster(ss, su, sr, &mut words[0..67]);
+    put_cluster(rs, ru, rr, &mut words[67..134]);
+    words[134..137].copy_from_slice(&[u64::from(q), 0, 0]);
 }

@@ -1,17 +1,7 @@
-// Whether p is the point that the members' numbers give, asked in the words where they lie.
+// Whether p is the point that the members' numbers give, asked as `shares::is_point` does of lent shares, here in the words that C lends.
 ghost use Rattle.std.specs.Prelude.{◌≡◌, true, cond, ◌+◌, ◌*◌, ◌≤◌, ◌<◌, leb, eqb, take};
 ghost use Rattle.shares.specs.Point.{reached_of, point_of};
 ghost use Rattle.words.specs.Taken.{word_at, none_above, column_at};
-
-use crate::clusters::share_at;
-
-// The number of member i of n.
-fn number_at(words: &[u64; 457], n: usize, i: usize) -> u64
-    requires { (i < n) × (n ≤ 64) × (none_above words.now 137 n 1000000000000 ≡ true) }
-    ensures { (result ≡ word_at words.now (137 + i)) × (result ≤ 1000000000000) }
-{
-    words[137 + i]
-}
 
 // All of 32 bits where a number is at least g, else none: bit 63 of the sum says so, and no comparison of 64 bits is made.
 fn reached_bits(number: u64, g: u64) -> u64
@@ -22,27 +12,15 @@ fn reached_bits(number: u64, g: u64) -> u64
     bit * 4_294_967_295
 }
 
-// The share of member i where its number is at least g.
-fn reached_share(words: &[u64; 457], n: usize, g: u64, i: usize) -> u64
-    requires { (i < n) × (n ≤ 64) × (none_above words.now 70 n 4294967295 ≡ true) × (none_above words.now 137 n 1000000000000 ≡ true) × (g ≤ 1000000000001) }
-    ensures { (result ≡ cond (leb g (word_at words.now (137 + i))) (word_at words.now (70 + i)) 0) × (result ≤ 4294967295) }
-{
-    let share = share_at(words, 70, n, i);
-    let number = number_at(words, n, i);
-    share & reached_bits(number, g)
-}
-
 // The share of the n members whose number is at least g.
 // inner: for members that have places, shares that fit, and numbers in range.
 pub fn reached(words: &[u64; 457], n: usize, g: u64) -> u64
     requires { (n ≤ 64) × (none_above words.now 70 n 4294967295 ≡ true) × (none_above words.now 137 n 1000000000000 ≡ true) × (g ≤ 1000000000001) }
     ensures { (result ≡ reached_of (take n (column_at words.now 70)) (column_at words.now 137) g) × (result ≤ 64 * 4294967295) }
 {
-    let mut sum: u64 = 0;
-    let mut i: usize = 0;
-    while i < n {
-        sum += reached_share(words, n, g, i);
-        i += 1;
+    let mut sum = 0;
+    for (i, share) in words[70..70 + n].iter().enumerate() {
+        sum += share & reached_bits(words[137 + i], g);
     }
     sum
 }

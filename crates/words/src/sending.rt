@@ -1,15 +1,8 @@
 // Putting what a send changes into words.
-ghost use Rattle.std.specs.Prelude.{◌≡◌, true, length};
+ghost use Rattle.std.specs.Prelude.{◌≡◌, true};
 ghost use Rattle.window.specs.Sending.{with_sent};
 ghost use Rattle.words.specs.Taken.{fits, window_in};
 ghost use Rattle.words.specs.Put.{words_of};
-
-fn put_sent_in(k: u64, out: &mut [u64])
-    requires { (length out.old ≡ 457) × (fits out.old ≡ true) }
-    ensures { out.new ≡ words_of (with_sent (window_in out.old) k) }
-{
-    out[135] = k;
-}
 
 // S alone put anew, the other words being the state's already.
 // inner: for a caller that has asked whether the words fit.
@@ -17,5 +10,5 @@ pub fn put_sent(k: u64, words: &mut [u64; 457])
     requires { fits words.old ≡ true }
     ensures { words.new ≡ words_of (with_sent (window_in words.old) k) }
 {
-    put_sent_in(k, words);
+    words[135] = k;
 }

@@ -10,11 +10,8 @@ fn shares_at(words: &[u64; 457], at: usize) -> [u32; 64]
     ensures { result ≡ column_at words.now at }
 {
     let mut shares = [0u32; 64];
-    let mut i: usize = 0;
-    while i < 64 {
-        let share = words[at + i];
-        shares[i] = share as u32;
-        i += 1;
+    for (i, share) in shares.iter_mut().enumerate() {
+        *share = words[at + i] as u32;
     }
     shares
 }

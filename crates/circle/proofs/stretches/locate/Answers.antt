@@ -1,18 +1,14 @@
-use Rattle.circle.proofs.PlaceLaws.{some_member, locate_start, more_members, locate_turn, locate_done}
-use borrow.Author.Rules.{rules}
+use Rattle.circle.proofs.PlaceLaws.{locate_start, locate_turn, locate_done, locate_end}
 use Rattle.circle.proofs.stretches.locate.Goals as goal
 
-pub stretch-width-requires : goal.stretch-width-requires
-stretch-width-requires c = search (some_member, rules)
+pub loop-i-init : goal.loop-i-init
+loop-i-init c = search locate_start
 
-pub loop-width-init : goal.loop-width-init
-loop-width-init c = (search some_member, search locate_start, search rules)
+pub returns-then-rest-width : goal.returns-then-rest-width
+returns-then-rest-width c = search locate_done
 
-pub stretch-width-requires-in-loop-width : goal.stretch-width-requires-in-loop-width
-stretch-width-requires-in-loop-width c = (search rules, search more_members)
+pub loop-i-preserved : goal.loop-i-preserved
+loop-i-preserved c = search locate_turn
 
-pub loop-width-preserved : goal.loop-width-preserved
-loop-width-preserved c = (search more_members, search locate_turn, search rules)
-
-pub returns : goal.returns
-returns c = search locate_done
+pub unreachable-requires : goal.unreachable-requires
+unreachable-requires c = search locate_end

@@ -1,3 +1,5 @@
+use Rattle.circle.specs.Stretches.{same_place}
+use Rattle.circle.specs.Positions.{same_position}
 use Rattle.circle.proofs.PositionLaws.{on_circle}
 use Rattle.circle.proofs.PeriodLaws.{walk_start, walk_next, walk_turn, walk_done}
 use borrow.Author.Rules.{rules}
@@ -10,6 +12,7 @@ pub next-at-requires : goal.next-at-requires
 next-at-requires c = search (on_circle, rules)
 
 pub loop-left-preserved : goal.loop-left-preserved
+unfolding same_position same_place
 loop-left-preserved c = (search rules, search walk_next, search walk_turn)
 
 pub returns : goal.returns

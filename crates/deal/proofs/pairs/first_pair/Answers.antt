@@ -1,15 +1,20 @@
 -- A refusal comes with zeros; otherwise both clusters can be dealt.
+use Rattle.basics.proofs.RefusalLaws.{passed, handed_on, not_zero}
 use Rattle.deal.proofs.PairLaws.{deals_sending, deals_receiving, pair_refused, pair_answered}
 use Rattle.deal.proofs.pairs.first_pair.Goals as goal
 
-pub returns-then-n-ne0 : goal.returns-then-n-ne0
-returns-then-n-ne0 c = search pair_refused
+pub returns-in_err-first_pair_refusal : goal.returns-in_err-first_pair_refusal
+returns-in_err-first_pair_refusal c =
+    rw (handed_on c.from_residual.result c.in_err-first_pair_refusal.field-0.0 c.from_residual.ensures.1)
+    (pair_refused _ _ _ _ _ _ _ _ _ c.in_err-first_pair_refusal.ensures (not_zero _))
 
-pub first_sender-from-requires : goal.first_sender-from-requires
-first_sender-from-requires c = search deals_sending
+pub first_sender-sender-requires : goal.first_sender-sender-requires
+first_sender-sender-requires c = deals_sending _ _ _ _ _ _ _ _ _ c.first_pair_refusal.ensures (passed _ _ c.in_ok-first_pair_refusal.was)
 
-pub first_receiver-to-requires : goal.first_receiver-to-requires
-first_receiver-to-requires c = search deals_receiving
+pub first_receiver-receiver-requires : goal.first_receiver-receiver-requires
+first_receiver-receiver-requires c = deals_receiving _ _ _ _ _ _ _ _ _ c.first_pair_refusal.ensures (passed _ _ c.in_ok-first_pair_refusal.was)
 
 pub returns : goal.returns
-returns c = search pair_answered
+returns c =
+    let ok = passed _ _ c.in_ok-first_pair_refusal.was in
+    pair_answered _ _ _ _ _ _ _ _ _ c.first_pair_refusal.ensures _ _ ok c.first_sender-sender.ensures c.first_receiver-receiver.ensures

@@ -1,13 +1,21 @@
 -- Each answer is that of the first check that fails.
+use Rattle.std.proofs.Common.{◌∙◌}
 use Rattle.basics.proofs.CheckLaws.{checks}
+use Rattle.basics.proofs.RefusalLaws.{passed, refused}
 use Rattle.deal.proofs.PairLaws.{first_pair_clusters, first_pair_judged}
 use Rattle.deal.proofs.pairs.first_pair_refusal.Goals as goal
 
-pub returns-then-n-ne0 : goal.returns-then-n-ne0
-returns-then-n-ne0 c = search first_pair_clusters
+pub returns-in_err-pair_refusal : goal.returns-in_err-pair_refusal
+returns-in_err-pair_refusal c =
+    let same = refused _ c.from_residual.result _ c.in_err-pair_refusal.was c.from_residual.ensures.1 in
+    first_pair_clusters _ _ _ _ _ _ _ _ _ (same.0 ∙ c.pair_refusal.ensures) same.1
 
 pub returns-then-not-is_message : goal.returns-then-not-is_message
-returns-then-not-is_message c = search (first_pair_judged, checks)
+returns-then-not-is_message c =
+    let ok = passed _ _ c.in_ok-pair_refusal.was in
+    first_pair_judged _ _ _ _ _ _ _ _ _ _ c.pair_refusal.ensures ok (search checks)
 
 pub returns : goal.returns
-returns c = search (first_pair_judged, checks)
+returns c =
+    let ok = passed _ _ c.in_ok-pair_refusal.was in
+    first_pair_judged _ _ _ _ _ _ _ _ _ _ c.pair_refusal.ensures ok (search checks)

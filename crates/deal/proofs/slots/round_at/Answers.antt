@@ -4,15 +4,15 @@ use Rattle.deal.proofs.DealerLaws.{takers_none, takers_turn, takers_done, slots_
 use borrow.Author.Rules.{rules}
 use Rattle.deal.proofs.slots.round_at.Goals as goal
 
-pub loop-i-init : goal.loop-i-init
+pub loop-count-init : goal.loop-count-init
 unfolding slots_before
-loop-i-init c = (search rules, search rules, search sums, search takers_none, search rules, search rules)
+loop-count-init c = (search sums, search takers_none, search rules, search rules)
 
 pub overflow_add-before : goal.overflow_add-before
 overflow_add-before c = search (slots_within, rules)
 
-pub loop-i-preserved : goal.loop-i-preserved
-loop-i-preserved c = (search rules, search rules, search sums, search takers_turn, search rules, search rules)
+pub loop-count-preserved : goal.loop-count-preserved
+loop-count-preserved c = (search sums, search takers_turn, search rules, search rules)
 
 pub returns : goal.returns
 unfolding slots_before

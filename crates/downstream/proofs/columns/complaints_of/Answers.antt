@@ -1,16 +1,9 @@
-use mathlib.Core.Path.{refl}
-use Rattle.basics.proofs.SumLaws.{list_start}
-use Rattle.downstream.specs.State.{complaints_of}
-use Rattle.downstream.proofs.ColumnLaws.{column_turn, column_done}
-use borrow.Author.Rules.{rules}
+-- The closure reads one field, so each place of the column is that field of the element there.
+use Rattle.std.proofs.Common.{rules}
+use Rattle.basics.proofs.SumLaws.{list_is}
+use Rattle.downstream.specs.State.{no_entry, complaints_of}
 use Rattle.downstream.proofs.columns.complaints_of.Goals as goal
-
-pub loop-i-init : goal.loop-i-init
-loop-i-init c = (search rules, refl, search list_start)
-
-pub loop-i-preserved : goal.loop-i-preserved
-loop-i-preserved c = (search rules, search rules, search column_turn)
 
 pub returns : goal.returns
 unfolding complaints_of
-returns c = search (column_done, rules)
+returns c = list_is _ 0 64 _ c.map.ensures.items.long (λ j l. let w = c.map.ensures.items.at j no_entry 0 l in search rules)

@@ -1,5 +1,4 @@
 -- The invariant: the set is that of the members before i that lack the message.
-use Prim.Native.Nat.{◌≤◌, ◌-◌}
 use mathlib.Core.Path.{◌≡◌}
 use mathlib.Core.Bool.{not}
 use Rattle.marks.specs.Masks.{set_below}
@@ -7,7 +6,4 @@ use Rattle.downstream.specs.State.{held_by}
 use Rattle.downstream.proofs.columns.lacking.Given as goal
 
 abbrev pub invariant-loop-i : goal.invariant-loop-i
-invariant-loop-i l = (l.i ≤ l.n) × (l.n ≤ 64) × (l.set ≡ set_below l.i (λ j. not (held_by l.numbers l.masks l.k j)))
-
-abbrev pub decreases-loop-i : goal.decreases-loop-i
-decreases-loop-i l = l.n - l.i
+invariant-loop-i l = l.set ≡ set_below l.i (λ j. not (held_by l.numbers l.masks l.k j))

@@ -1,15 +1,20 @@
--- More than 64 members are never a cluster; of others the refusal and the later places decide.
-use Rattle.downstream.proofs.FormedLaws.{prefixes, cluster_many, cluster_judged}
+use Rattle.std.proofs.Common.{◌≡◌, ◌∙◌, drop, rules}
+use lib.Dec.{eqb}
+use Rattle.std.specs.List.{list_all}
+use Rattle.basics.specs.Refusals.{outcome_number}
+use Rattle.basics.proofs.RefusalLaws.{done}
+use Rattle.downstream.specs.Formed.{places_zero}
+use Rattle.downstream.proofs.FormedLaws.{cluster_many, cluster_judged}
+use Rattle.downstream.proofs.ListLaws.{all_behind}
 use Rattle.downstream.proofs.formed.cluster_kept.Goals as goal
 
 pub returns-then-n-gt64 : goal.returns-then-n-gt64
 returns-then-n-gt64 c = search cluster_many
 
-pub slice_bounds-shares-end : goal.slice_bounds-shares-end
-slice_bounds-shares-end c = search prefixes
-
-pub slice_bounds-cluster_refusal-end : goal.slice_bounds-cluster_refusal-end
-slice_bounds-cluster_refusal-end c = search prefixes
-
 pub returns : goal.returns
-returns c = search cluster_judged
+unfolding places_zero
+returns c =
+    let a = c.args.c in
+    let zero : c.all_zero.result ≡ list_all (λ x. eqb x 0) (drop a.members a.shares) = search rules in
+    rw (c.is_ok-accepted.ensures.value, done c.cluster_refusal.result)
+    (cluster_judged a (outcome_number c.cluster_refusal.result) c.all_zero.result (search rules) (search rules) (zero ∙ all_behind _ 0 a.members 64 a.shares (search rules) (search rules)))

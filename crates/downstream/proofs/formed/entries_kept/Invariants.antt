@@ -1,5 +1,5 @@
 -- The invariant: of the o messages after p every entry is kept exactly where `kept` says so.
-use Prim.Native.Nat.{◌≤◌, ◌-◌, ◌+◌}
+use Prim.Native.Nat.{◌+◌}
 use mathlib.Core.Path.{◌≡◌}
 use lib.ListN.{get_or}
 use Rattle.basics.specs.Sums.{all_below}
@@ -8,7 +8,4 @@ use Rattle.downstream.specs.Formed.{entry_kept}
 use Rattle.downstream.proofs.formed.entries_kept.Given as goal
 
 abbrev pub invariant-loop-o : goal.invariant-loop-o
-invariant-loop-o l = (l.o ≤ 64) × (l.n ≤ 64) × (l.p ≤ 1000000000000) × (l.kept ≡ all_below l.o (λ j. entry_kept l.n l.numbers l.masks l.s (l.p + 1 + j) (get_or l.entries (place_after l.p j) no_entry)))
-
-abbrev pub decreases-loop-o : goal.decreases-loop-o
-decreases-loop-o l = 64 - l.o
+invariant-loop-o l = l.kept ≡ all_below l.o (λ j. entry_kept l.n l.numbers l.masks l.s (l.p + 1 + j) (get_or l.entries (place_after l.p j) no_entry))

@@ -1,11 +1,6 @@
--- The invariant: where the set has no bit, none of the words before place i changes.
-use Prim.Native.Nat.{◌≤◌, ◌-◌}
-use lib.ListN.{length}
+-- The invariant: where the set has no bit, none of the words before this one changes.
 use Rattle.downstream.specs.Rows.{Steady}
 use Rattle.downstream.proofs.rows.changes.Given as goal
 
-abbrev pub invariant-loop-i : goal.invariant-loop-i
-invariant-loop-i l = (l.i ≤ length l.rows) × Steady l.rows l.i l.set
-
-abbrev pub decreases-loop-i : goal.decreases-loop-i
-decreases-loop-i l = length l.rows - l.i
+abbrev pub invariant-loop-row : goal.invariant-loop-row
+invariant-loop-row l = Steady l.rows l.row-index l.set

@@ -5,7 +5,7 @@ use borrow.Author.Rules.{rules}
 use Rattle.hamilton.proofs.quotas.fill_quotas.Goals as goal
 
 pub loop-i-init : goal.loop-i-init
-loop-i-init c = (search rules, search undealt_start, search rules, search list_start, search rules, search list_start)
+loop-i-init c = (search undealt_start, search rules, search list_start, search rules, search list_start)
 
 pub times-product-requires : goal.times-product-requires
 times-product-requires c = (search share_small, search rules)
@@ -14,7 +14,7 @@ pub overflow_sub-rest : goal.overflow_sub-rest
 overflow_sub-rest c = search undealt_fits
 
 pub loop-i-preserved : goal.loop-i-preserved
-loop-i-preserved c = (search rules, search undealt_turn, simp length-set (search rules), search (list_next, quota_told), simp length-set (search rules), search (list_next, key_told))
+loop-i-preserved c = (search undealt_turn, simp length-set (search rules), search (list_next, quota_told), simp length-set (search rules), search (list_next, key_told))
 
 pub returns : goal.returns
 returns c = record { value = search undealt_done; out_after = search list_done; keys_after = search list_done }

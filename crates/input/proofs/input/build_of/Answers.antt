@@ -9,5 +9,5 @@ returns-then-s-gt4096 c = search (too_long, rules)
 pub returns-then-in_order : goal.returns-then-in_order
 returns-then-in_order c = search building
 
-pub returns : goal.returns
-returns c = search building
+pub returns-else-in_order : goal.returns-else-in_order
+returns-else-in_order c = search building

@@ -8,8 +8,8 @@ loop-r-init c = search counting
 pub loop-r-preserved : goal.loop-r-preserved
 loop-r-preserved c = search counting
 
-pub returns-else-is_share : goal.returns-else-is_share
-returns-else-is_share c = (search counting, search rules)
+pub returns-then-not-is_share : goal.returns-then-not-is_share
+returns-then-not-is_share c = (search counting, search rules)
 
 pub returns : goal.returns
 returns c = (search counting, search rules)

@@ -6,8 +6,8 @@ use Rattle.judging.proofs.DueLaws.{few_due, none_due, due_told}
 use borrow.Author.Rules.{rules}
 use Rattle.judging.proofs.due.due_among.Goals as goal
 
-pub returns-then-against-r : goal.returns-then-against-r
-returns-then-against-r c = let a = c.args in
+pub returns-then-against-from : goal.returns-then-against-from
+returns-then-against-from c = let a = c.args in
     search (few_due a.shares.now a.u a.r a.numbers.now a.masks.now a.counts.now a.complaints.now a.p, rules)
 
 pub returns-then-enough-eq0 : goal.returns-then-enough-eq0

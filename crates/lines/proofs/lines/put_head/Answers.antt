@@ -8,4 +8,4 @@ pub put_line-requires : goal.put_line-requires
 put_line-requires c = search (copy_room, rules)
 
 pub returns : goal.returns
-returns c = (search head_end, search (both_put, head_parts, head_room))
+returns c = let w = rw (c.from-sender.ensures, c.from-receiver.ensures) at c.put_line.ensures in (search head_end, search (both_put, head_parts, head_room))

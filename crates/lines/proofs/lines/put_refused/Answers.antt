@@ -7,4 +7,4 @@ pub put_field-requires : goal.put_field-requires
 put_field-requires c = search refused_number_room
 
 pub returns : goal.returns
-returns c = (search refused_end, search (both_put, refused_parts, refused_room))
+returns c = let w = rw c.from.ensures at c.put_field.ensures in (search refused_end, search (both_put, refused_parts, refused_room))

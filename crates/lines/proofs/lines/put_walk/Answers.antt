@@ -4,16 +4,16 @@ use borrow.Author.Rules.{rules}
 use Rattle.lines.proofs.lines.put_walk.Goals as goal
 
 pub loop-n-init : goal.loop-n-init
-loop-n-init c = (search rules, search rules, search rules, search rules, search walk_start_end, search walk_start)
+loop-n-init c = (search rules, search walk_start_end, search walk_start)
 
-pub next-next-requires : goal.next-next-requires
-next-next-requires c = search (on_circle, rules)
+pub next-pos-requires : goal.next-pos-requires
+next-pos-requires c = search (on_circle, rules)
 
 pub put_resend-to-requires : goal.put_resend-to-requires
 put_resend-to-requires c = (search (rules), search walk_short, search (walk_room, rules))
 
 pub loop-n-preserved : goal.loop-n-preserved
-loop-n-preserved c = (search rules, search next_told, search rules, search rules, search walk_turn_end, search walk_turn)
+loop-n-preserved c = (search next_told, search walk_turn_end, search walk_turn)
 
 pub returns : goal.returns
 returns c = (search walk_done_end, search walk_done)

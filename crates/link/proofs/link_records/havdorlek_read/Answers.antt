@@ -1,10 +1,15 @@
 -- A refusal and zeros, or 0 and the record's numbers.
-use Rattle.link.proofs.RecordLaws.{refused_number, refused_zeros, record_number, record_numbers}
-use borrow.Author.Rules.{rules}
+use Rattle.std.proofs.Common.{◌∙◌, ap}
+use Rattle.link.specs.Numbers.{told_numbers}
+use Rattle.records.specs.Answers.{Told, told}
+use Rattle.link.proofs.RecordLaws.{record_number, record_numbers}
 use Rattle.link.proofs.link_records.havdorlek_read.Goals as goal
 
-pub returns-in-Refused : goal.returns-in-Refused
-returns-in-Refused c = (search (refused_number, rules), search (refused_zeros, rules))
+pub returns-in-Ok : goal.returns-in-Ok
+returns-in-Ok c = let e = c.in-Ok.ensures.0 in (record_number _ _ e, record_numbers _ _ e _ c.put_record.ensures)
 
-pub returns-in-Is : goal.returns-in-Is
-returns-in-Is c = (search (record_number, rules), search (record_numbers, rules))
+pub returns-in-Err : goal.returns-in-Err
+unfolding told
+returns-in-Err c =
+    let e = c.in-Err.ensures.0 in
+    (c.number.ensures ∙ ap (λ (t : Told). t.refusal) e, ap told_numbers e)

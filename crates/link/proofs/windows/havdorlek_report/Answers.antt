@@ -1,21 +1,33 @@
 -- Ill-formed words are 17 and stay; so do those of a refused report; an accepted one puts what it changes.
+use Rattle.std.proofs.Common.{refl, ◌∙◌}
+use Rattle.basics.proofs.RefusalLaws.{not_zero}
 use Rattle.link.proofs.WindowLaws.{fit_known, well_told, report_ill, report_ill_words, report_ill_bytes, report_ill_answer, report_refused, report_refused_words, report_refused_bytes, report_refused_answer, report_done, report_done_words, report_done_bytes, report_done_answer}
 use Rattle.window.proofs.ReportLaws.{report_ready}
-use borrow.Author.Tests.{not-true, not-false}
-use borrow.Author.Rules.{rules}
 use Rattle.link.proofs.windows.havdorlek_report.Goals as goal
 
 pub returns-then-not-formed : goal.returns-then-not-formed
-returns-then-not-formed c = (search (report_ill, not-true), search (report_ill_words, not-true), search (report_ill_bytes, not-true), search (report_ill_answer, not-true))
+returns-then-not-formed c =
+    let e = c.formed.ensures in
+    let ill = c.if-not-formed.true in
+    (c.number.ensures ∙ report_ill _ _ e ill _ _ _ _, report_ill_words _ _ e ill _ _ _ _, report_ill_bytes _ _ e ill _ _ _ _, report_ill_answer _ _ e ill _ _ _ _)
 
-pub report_refusal-refusal-requires : goal.report_refusal-refusal-requires
-report_refusal-refusal-requires c = search (well_told, not-false)
-
-pub returns-then-refusal-ne0 : goal.returns-then-refusal-ne0
-returns-then-refusal-ne0 c = (search (report_refused, not-false), search (report_refused_words, not-false), search (report_refused_bytes, not-false), search (report_refused_answer, not-false))
+pub report_refusal-requires : goal.report_refusal-requires
+report_refusal-requires c = well_told _ _ c.formed.ensures c.if-not-formed.false
 
 pub take_report-verdicts-requires : goal.take_report-verdicts-requires
-take_report-verdicts-requires c = (search (fit_known, not-false), search (report_ready, rules))
+take_report-verdicts-requires c = (fit_known _ _ c.formed.ensures c.if-not-formed.false, report_ready _ _ _ _ _ _ c.in-Ok.ensures refl)
 
-pub returns : goal.returns
-returns c = (search (report_done, not-false), search (report_done_words, not-false), search (report_done_bytes, not-false), search (report_done_answer, not-false))
+pub returns-in-Ok : goal.returns-in-Ok
+returns-in-Ok c =
+    let e = c.formed.ensures in
+    let well = c.if-not-formed.false in
+    let d = c.in-Ok.ensures in
+    let step = c.take_report-verdicts.ensures in
+    (report_done _ _ e well _ _ _ _ _ d refl, report_done_words _ _ e well _ _ _ _ _ d _ refl step.1, report_done_bytes _ _ e well _ _ _ _ _ d _ refl step.2, report_done_answer _ _ e well _ _ _ _ _ d _ refl (c.from.ensures ∙ step.0))
+
+pub returns-in-Err : goal.returns-in-Err
+returns-in-Err c =
+    let e = c.formed.ensures in
+    let well = c.if-not-formed.false in
+    let d = c.in-Err.ensures in
+    (c.number-in-Err.ensures ∙ report_refused _ _ e well _ _ _ _ _ d (not_zero _), report_refused_words _ _ e well _ _ _ _ _ d (not_zero _), report_refused_bytes _ _ e well _ _ _ _ _ d (not_zero _), report_refused_answer _ _ e well _ _ _ _ _ d (not_zero _))

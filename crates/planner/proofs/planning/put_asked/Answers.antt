@@ -1,16 +1,27 @@
 -- A refusal is told; otherwise the head stands first, and the resends behind it.
+use Rattle.std.proofs.Common.{refl, rules}
+use Rattle.basics.proofs.RefusalLaws.{not_zero}
 use Rattle.planner.proofs.AskedLaws.{refused_end, refused_put, short_sender, short_receiver, sends, receives, sends_first, lines_room, planned_end, planned_put}
-use borrow.Author.Rules.{rules}
 use Rattle.planner.proofs.planning.put_asked.Goals as goal
 
-pub returns-then-first-ne0 : goal.returns-then-first-ne0
-returns-then-first-ne0 c = (search refused_end, search refused_put)
+pub returns-in-Err : goal.returns-in-Err
+returns-in-Err c =
+    let told = rw c.from-k.ensures at c.in-Err.ensures in
+    (refused_end _ _ told (not_zero _) _ (rw c.number.ensures at c.put_refused.ensures.0), refused_put _ _ told (not_zero _) _ _ (rw c.number.ensures at c.put_refused.ensures.1))
 
 pub put_head-at-requires : goal.put_head-at-requires
-put_head-at-requires c = (search short_sender, search short_receiver, search rules)
+put_head-at-requires c =
+    let told = rw c.from-k.ensures at c.in-Ok.ensures in
+    (short_sender _ _ _ _ _ _ _ _ _ told refl, short_receiver _ _ _ _ _ _ _ _ _ told refl, search rules)
 
 pub put_resends-requires : goal.put_resends-requires
-put_resends-requires c = (search sends, search receives, search sends_first, search lines_room)
+put_resends-requires c =
+    let told = rw c.from-k.ensures at c.in-Ok.ensures in
+    let at = c.put_head-at.ensures.0 in
+    (sends _ _ _ _ _ _ _ _ _ told refl, receives _ _ _ _ _ _ _ _ _ told refl, sends_first _ _ _ _ _ _ _ _ _ told refl, lines_room _ _ _ _ _ _ _ _ _ told refl _ _ _ at c.requires (search rules))
 
-pub returns : goal.returns
-returns c = (search planned_end, search planned_put)
+pub returns-in-Ok : goal.returns-in-Ok
+returns-in-Ok c =
+    let told = rw c.from-k.ensures at c.in-Ok.ensures in
+    let at = c.put_head-at.ensures.0 in
+    (planned_end _ _ told refl _ at _ c.put_resends.ensures.0, planned_put _ _ told refl _ at _ _ _ c.requires c.put_head-at.ensures.1 c.put_resends.ensures.1)

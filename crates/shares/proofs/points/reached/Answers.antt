@@ -1,21 +1,13 @@
-use Rattle.basics.proofs.SumLaws.{sums}
-use Rattle.shares.specs.Shares.{share_of}
-use Rattle.shares.specs.Point.{reached_of}
+-- The test asked of each place that has a value is whether that is at least g; the others' value is 0.
+use Rattle.std.proofs.Common.{leb, get_or}
+use Rattle.basics.proofs.BoolLaws.{branches}
+use Rattle.shares.proofs.PointLaws.{reached_parts}
 use borrow.Author.Rules.{rules}
 use Rattle.shares.proofs.points.reached.Goals as goal
-
-pub loop-i-init : goal.loop-i-init
-loop-i-init c = (search rules, search rules, search rules, search sums, search rules)
-
-pub loop-i-preserved : goal.loop-i-preserved
-loop-i-preserved c = (search rules, search rules, search rules, search sums, search rules)
-
-pub loop-i-2-init : goal.loop-i-2-init
-loop-i-2-init c = (search rules, search rules, search sums, search rules)
-
-pub loop-i-2-preserved : goal.loop-i-2-preserved
-loop-i-2-preserved c = (search rules, search rules, search sums, search rules)
+use Rattle.shares.proofs.points.reached.Goals.{then-g-eq0, else-g-eq0}
 
 pub returns : goal.returns
-unfolding reached_of share_of
-returns c = search sums
+returns c =
+    reached_parts _ _ _ _ _ _ (search rules)
+    (c.share_where-with_value.ensures.value (λ i. leb c.args.g (get_or c.args.values.now i 0)) (λ i b l q. search rules))
+    (elim c.if-g-eq0.branch [ then-g-eq0 w ↦ search branches | else-g-eq0 w ↦ search branches ])

@@ -1,13 +1,8 @@
-use Rattle.shares.proofs.ShareLaws.{share_done}
-use Rattle.basics.proofs.SumLaws.{sums}
+-- The test asked of each place is whether its bit is marked, and past the last that is named there is none.
+use Rattle.marks.specs.Masks.{is_marked}
+use Rattle.shares.proofs.ShareLaws.{share_named}
 use borrow.Author.Rules.{rules}
 use Rattle.shares.proofs.totals.share.Goals as goal
 
-pub loop-i-init : goal.loop-i-init
-loop-i-init c = (search rules, search rules, search rules, search rules, search sums, search rules)
-
-pub loop-i-preserved : goal.loop-i-preserved
-loop-i-preserved c = (search rules, search rules, search rules, search rules, search sums, search rules)
-
 pub returns : goal.returns
-returns c = (search share_done, search rules)
+returns c = (share_named _ _ c.ranges.members _ _ _ c.reach.ensures.0 (search rules) (c.share_where.ensures.value (is_marked c.args.members) (λ i b l q. search rules)), search rules)

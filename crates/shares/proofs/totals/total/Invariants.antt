@@ -1,12 +1,7 @@
--- The invariant: `sum` is that of the shares before place i, and each of them has 32 bits.
-use Prim.Native.Nat.{◌≤◌, ◌-◌, ◌*◌}
-use mathlib.Core.Path.{◌≡◌}
-use lib.ListN.{length, get_or}
+-- The invariant: `sum` is that of the shares before this one, and each of them has 32 bits.
+use Rattle.std.proofs.Common.{◌≡◌, ◌*◌, ◌≤◌, get_or}
 use Rattle.basics.specs.Sums.{sum_below}
 use Rattle.shares.proofs.totals.total.Given as goal
 
-abbrev pub invariant-loop-i : goal.invariant-loop-i
-invariant-loop-i l = (l.i ≤ length l.shares) × (length l.shares ≤ 64) × (l.sum ≡ sum_below l.i (λ j. get_or l.shares j 0)) × (l.sum ≤ l.i * 4294967295)
-
-abbrev pub decreases-loop-i : goal.decreases-loop-i
-decreases-loop-i l = length l.shares - l.i
+abbrev pub invariant-loop-share : goal.invariant-loop-share
+invariant-loop-share l = (l.sum ≡ sum_below l.share-index (λ j. get_or l.shares j 0)) × (l.sum ≤ l.share-index * 4294967295)

@@ -1,12 +1,12 @@
-use Rattle.shares.specs.Shares.{total_of}
-use Rattle.shares.specs.Cluster.{shares_fit}
-use Rattle.shares.proofs.WeighLaws.{bits_turn, bits_done, total_turn, total_done}
+use Rattle.shares.proofs.BehindLaws.{bits_behind, total_behind, bits_all, total_all}
 use borrow.Author.Rules.{rules}
 use Rattle.shares.proofs.weighing.weigh.Goals as goal
 
-pub loop-i-preserved : goal.loop-i-preserved
-loop-i-preserved c = (search rules, search (bits_turn, rules), search (total_turn, rules))
+pub loop-share-preserved : goal.loop-share-preserved
+loop-share-preserved c = (
+  bits_behind c.args.shares.now _ _ _ _ c.loop-share-test.true c.loop-share.invariant.0 c.share_bits-bits.ensures,
+  total_behind c.args.shares.now _ _ _ _ c.loop-share-test.true c.loop-share.invariant.1 (search rules),
+)
 
 pub returns : goal.returns
-unfolding shares_fit total_of
-returns c = (search (bits_done, rules), search (total_done, rules))
+returns c = (search (bits_all, rules), search (total_all, rules))

@@ -1,14 +1,11 @@
--- The invariant: the bits tell of the shares before place i, and the total is theirs, counted round.
-use Prim.Native.Nat.{◌≤◌, ◌-◌, ◌%◌}
-use mathlib.Core.Path.{◌≡◌}
+-- The invariant: the bits tell of the shares before this one, with those taken beforehand, and the total is theirs, counted round.
+use Rattle.std.proofs.Common.{◌≡◌, ◌+◌, ◌%◌, get_or}
 use lib.Dec.{ltb}
-use lib.ListN.{length, get_or}
 use Rattle.basics.specs.Sums.{sum_below, all_below}
 use Rattle.shares.specs.Cluster.{is_share}
 use Rattle.shares.proofs.weighing.weigh.Given as goal
 
-abbrev pub invariant-loop-i : goal.invariant-loop-i
-invariant-loop-i l = (l.i ≤ length l.shares) × (ltb l.bits 2147483648 ≡ all_below l.i (λ j. is_share (get_or l.shares j 0))) × (l.total ≡ sum_below l.i (λ j. get_or l.shares j 0) % 4294967296)
-
-abbrev pub decreases-loop-i : goal.decreases-loop-i
-decreases-loop-i l = length l.shares - l.i
+abbrev pub invariant-loop-share : goal.invariant-loop-share
+invariant-loop-share l =
+    (ltb l.bits 2147483648 ≡ all_below (l.taken + l.share-index) (λ j. is_share (get_or l.shares j 0)))
+    × (l.total ≡ sum_below (l.taken + l.share-index) (λ j. get_or l.shares j 0) % 4294967296)

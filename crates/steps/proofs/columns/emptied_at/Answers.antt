@@ -6,10 +6,10 @@ use borrow.Author.Rules.{rules}
 use Rattle.steps.proofs.columns.emptied_at.Goals as goal
 
 pub loop-j-init : goal.loop-j-init
-loop-j-init c = (search rules, search rules, refl, search list_start)
+loop-j-init c = (refl, search list_start)
 
 pub loop-j-preserved : goal.loop-j-preserved
-loop-j-preserved c = (search rules, search rules, search rules, search (fill_turn, rules))
+loop-j-preserved c = (search rules, search (fill_turn, rules))
 
 pub returns : goal.returns
 unfolding open_at

@@ -1,5 +1,5 @@
 -- The invariant: the places before j are filled.
-use Prim.Native.Nat.{◌≤◌, ◌-◌, ◌+◌}
+use Prim.Native.Nat.{◌+◌}
 use mathlib.Core.Path.{◌≡◌}
 use mathlib.Core.Bool.{cond}
 use mathlib.Core.List.{◌++◌}
@@ -11,7 +11,4 @@ use Rattle.words.specs.Taken.{word_at}
 use Rattle.steps.proofs.columns.emptied_at.Given as goal
 
 abbrev pub invariant-loop-j : goal.invariant-loop-j
-invariant-loop-j l = (l.j ≤ 64) × (l.at + 64 ≤ 457) × (length l.column ≡ 64) × (l.column ≡ list_below l.j (λ x. cond (ltb (offset_at l.p x) l.n) (word_at l.words (l.at + x)) 0) ++ drop l.j (replicate 64 0))
-
-abbrev pub decreases-loop-j : goal.decreases-loop-j
-decreases-loop-j l = 64 - l.j
+invariant-loop-j l = (length l.word-items ≡ 64) × (l.word-items ≡ list_below l.j (λ x. cond (ltb (offset_at l.p x) l.n) (word_at l.words (l.at + x)) 0) ++ drop l.j (replicate 64 0))

@@ -1,10 +1,6 @@
 -- A verdict that is due goes behind what is written; otherwise nothing changes.
 use Rattle.verdicts.proofs.WriteLaws.{due_put, due_at_lem, not_due_put, not_due_at}
-use borrow.Author.Rules.{rules}
 use Rattle.verdicts.proofs.writing.put_due.Goals as goal
-
-pub ends_in_turn-ends-requires : goal.ends_in_turn-ends-requires
-ends_in_turn-ends-requires c = record { sized = (search rules, search rules, search rules, search rules, search rules); turn_table = search rules }
 
 pub returns-then-due : goal.returns-then-due
 returns-then-due c = (search due_at_lem, search due_put)

@@ -1,10 +1,20 @@
--- The counts in the local array, cut to the members, are those of the sending cluster.
+-- The counts in the local array, cut to the members, are those of the sending cluster, and fill the quantum.
+use Rattle.deal.proofs.PairLaws.{slot_fits, slot_below, places_few, places_whole}
 use Rattle.verdicts.proofs.WriteLaws.{counts_cut, counts_ready}
 use borrow.Author.Rules.{rules}
 use Rattle.verdicts.proofs.writing.verdicts_between.Goals as goal
 
-pub slice_bounds-verdicts_in_turn-end : goal.slice_bounds-verdicts_in_turn-end
-slice_bounds-verdicts_in_turn-end c = search (counts_cut, rules)
+pub slice_bounds-at-end : goal.slice_bounds-at-end
+slice_bounds-at-end c = search (counts_cut, rules)
 
-pub verdicts_in_turn-requires : goal.verdicts_in_turn-requires
-verdicts_in_turn-requires c = (search rules, search counts_ready, search rules, search rules, search rules)
+pub overflow_cast-p : goal.overflow_cast-p
+overflow_cast-p c = search slot_fits
+
+pub at-dealer-requires : goal.at-dealer-requires
+at-dealer-requires c = (search (places_few, rules), search (places_whole, rules), search (slot_below, rules))
+
+pub put_verdicts-requires-clause-ready : goal.put_verdicts-requires-clause-ready
+put_verdicts-requires-clause-ready c =
+    let t = c.of-table.ensures in
+    let d = c.at-dealer.ensures in
+    (rw (t.0, t.1, d.0, d.1) (search counts_ready), rw d.1 d.2)

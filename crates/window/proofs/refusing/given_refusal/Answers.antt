@@ -7,9 +7,9 @@ pub returns-then-room-lt1024 : goal.returns-then-room-lt1024
 unfolding given_refusal
 returns-then-room-lt1024 c = search checks
 
-pub returns-then-members-i : goal.returns-then-members-i
+pub returns-then-members-from : goal.returns-then-members-from
 unfolding given_refusal
-returns-then-members-i c = search checks
+returns-then-members-from c = search checks
 
 pub returns-then-is_marked : goal.returns-then-is_marked
 unfolding given_refusal

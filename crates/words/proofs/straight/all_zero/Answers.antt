@@ -1,7 +1,8 @@
--- By their bits.
+-- By the bits of all of them.
 use Rattle.words.proofs.StraightLaws.{any_zero}
+use Rattle.words.proofs.SpanLaws.{any_told}
 use borrow.Author.Rules.{rules}
 use Rattle.words.proofs.straight.all_zero.Goals as goal
 
 pub returns : goal.returns
-returns c = search (any_zero, rules)
+returns c = search (any_zero, any_told, rules)

@@ -7,13 +7,13 @@ use borrow.Author.Rules.{rules}
 use Rattle.words.proofs.taking.shares_at.Goals as goal
 
 pub loop-i-init : goal.loop-i-init
-loop-i-init c = (search rules, search rules, search rules, refl, search list_start)
+loop-i-init c = (refl, search list_start)
 
-pub overflow_cast-shares : goal.overflow_cast-shares
-overflow_cast-shares c = search (share_at, rules)
+pub overflow_cast-share : goal.overflow_cast-share
+overflow_cast-share c = search (share_at, rules)
 
 pub loop-i-preserved : goal.loop-i-preserved
-loop-i-preserved c = (search rules, search rules, search rules, search rules, search (fill_turn, rules))
+loop-i-preserved c = (search rules, search (fill_turn, rules))
 
 pub returns : goal.returns
 unfolding column_at

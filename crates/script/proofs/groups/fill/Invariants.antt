@@ -1,9 +1,0 @@
--- The bytes stay as many as they were, and the place stays within them.
-use Rattle.std.proofs.Common.{◌≡◌, ◌-◌, ◌≤◌, length}
-use Rattle.script.proofs.groups.fill.Given as goal
-
-abbrev pub invariant-loop-i : goal.invariant-loop-i
-invariant-loop-i l = (l.i ≤ length l.initial.bytes) × (length l.bytes ≡ length l.initial.bytes)
-
-abbrev pub decreases-loop-i : goal.decreases-loop-i
-decreases-loop-i l = length l.initial.bytes - l.i

@@ -1,9 +1,0 @@
--- The place stays within the space, and each turn leaves fewer places.
-use Rattle.std.proofs.Common.{◌≡◌, ◌-◌, ◌≤◌, length}
-use Rattle.script.proofs.lines.read_full.Given as goal
-
-abbrev pub invariant-loop-done : goal.invariant-loop-done
-invariant-loop-done g l = (l.done ≤ length l.initial.space) × (length l.space ≡ length l.initial.space)
-
-abbrev pub decreases-loop-done : goal.decreases-loop-done
-decreases-loop-done g l = length l.initial.space - l.done

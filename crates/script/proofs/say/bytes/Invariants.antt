@@ -1,9 +1,0 @@
--- The place stays within what is walked over, and each turn leaves one place fewer.
-use Rattle.std.proofs.Common.{◌-◌, ◌≤◌, length}
-use Rattle.script.proofs.say.bytes.Given as goal
-
-abbrev pub invariant-loop-i : goal.invariant-loop-i
-invariant-loop-i g l = l.i ≤ length l.values
-
-abbrev pub decreases-loop-i : goal.decreases-loop-i
-decreases-loop-i g l = length l.values - l.i

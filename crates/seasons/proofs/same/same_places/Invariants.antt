@@ -1,9 +1,0 @@
--- The place stays within the 64, and each turn leaves one place fewer.
-use Rattle.std.proofs.Common.{◌-◌, ◌≤◌}
-use Rattle.seasons.proofs.same.same_places.Given as goal
-
-abbrev pub invariant-loop-i : goal.invariant-loop-i
-invariant-loop-i l = l.i ≤ 64
-
-abbrev pub decreases-loop-i : goal.decreases-loop-i
-decreases-loop-i l = 64 - l.i
