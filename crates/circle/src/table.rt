@@ -6,7 +6,8 @@ ghost use Rattle.circle.specs.TurnTable.{FirstSteps, TurnTable, ends_of};
 use crate::stretches::{Place, member_after, stretch};
 use crate::walk::{Circle, Position, circle_of, next, resend_at, start};
 
-// A resend's two ends. Not `deal::Pair`, which is of a first copy: this crate stands beside `deal` and knows no message.
+// A resend's two ends. `deal::Pair` has the same two numbers, of a first copy: one type for both would stand below both crates and be named
+// for neither.
 #[derive(Clone, Copy)]
 pub struct Ends {
     pub sender: u32,
@@ -14,7 +15,7 @@ pub struct Ends {
 }
 
 // The steps of a walk from unit 0, where resend 1 of the last member starts: the two ends of each, and for each member the step with which
-// its stretch begins, 128 where none does.
+// its stretch begins, 128 where none does. Numbers, and two columns, because `TurnTable` speaks of them: places that are never read hold any.
 #[derive(Drop)]
 struct Steps {
     senders: [u32; 128],
@@ -22,7 +23,7 @@ struct Steps {
     begins: [u32; 64],
 }
 
-// One turn between two clusters: so many steps, after which the walk is back; none where it is not back within 128.
+// One turn between two clusters: so many steps, after which the walk is back; 0 where it is not back within 128, as `TurnTable` has it.
 #[derive(Drop)]
 pub struct Table<'a> {
     pub ss: &'a [u32],

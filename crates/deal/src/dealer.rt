@@ -18,7 +18,8 @@ pub struct Dealer<'a> {
     pub ghost dealing: { Dealing counts.now q slot round member },
 }
 
-// The first member, from this one on, that takes a slot in round t; the number of members where none does.
+// The first member, from this one on, that takes a slot in round t; the number of members where none does, so that what is promised of those
+// before it holds of all, and needs no case of its own.
 fn taker_from(counts: &[u32], t: u32, from: u32) -> u32
     requires { (length counts.now ≤ 64) × (from ≤ length counts.now) }
     ensures { (result ≤ length counts.now) × (takers_before counts.now t result ≡ takers_before counts.now t from) × (result < length counts.now → t < get_or counts.now result 0) }

@@ -1,12 +1,10 @@
 // The first copy of a message: who sends it, and to whom.
 ghost use Rattle.std.specs.Prelude.{◌≡◌, ◌<◌};
-ghost use Rattle.basics.specs.Refusals.{outcome_number};
 ghost use Rattle.hamilton.specs.Hamilton.{counts_of, Dealable};
 ghost use Rattle.deal.specs.Rounds.{owner_of};
-ghost use Rattle.deal.specs.Pairs.{sender_of, receiver_of, pair_refusal, first_pair_refusal, first_pair_of, told};
+ghost use Rattle.deal.specs.Pairs.{sender_of, receiver_of};
 
 use crate::dealer::Dealer;
-use basics::Refusal;
 
 // The first copy's two ends.
 #[derive(Clone, Copy, Default)]
@@ -38,7 +36,7 @@ pub fn first_sender(shares: &[u32], q: u32, k: u64) -> u32
 }
 
 // Who receives it: each quantum starts one slot further on.
-fn first_receiver(shares: &[u32], q: u32, k: u64) -> u32
+pub(crate) fn first_receiver(shares: &[u32], q: u32, k: u64) -> u32
     requires { Dealable shares.now q }
     ensures { result ≡ receiver_of shares.now q k }
 {
@@ -47,62 +45,4 @@ fn first_receiver(shares: &[u32], q: u32, k: u64) -> u32
     let turned = before % width + before / width;
     let slot = turned % width;
     owner(shares, q, slot as u32)
-}
-
-// The refusal that two clusters and a quantum get: 1, 2, 3 of the sending cluster, then of the receiving, 4.
-pub fn pair_refusal(
-    ss: &[u32],
-    su: u32,
-    sr: u32,
-    rs: &[u32],
-    ru: u32,
-    rr: u32,
-    q: u32,
-) -> Result<(), Refusal>
-    ensures { outcome_number result ≡ pair_refusal ss.now su sr rs.now ru rr q }
-{
-    shares::cluster_refusal(ss, su, sr)?;
-    shares::cluster_refusal(rs, ru, rr)?;
-    if !basics::is_quantum(q) {
-        return Err(Refusal::Quantum);
-    }
-    Ok(())
-}
-
-fn first_pair_refusal(
-    ss: &[u32],
-    su: u32,
-    sr: u32,
-    rs: &[u32],
-    ru: u32,
-    rr: u32,
-    q: u32,
-    k: u64,
-) -> Result<(), Refusal>
-    ensures { outcome_number result ≡ first_pair_refusal ss.now su sr rs.now ru rr q k }
-{
-    pair_refusal(ss, su, sr, rs, ru, rr, q)?;
-    if !basics::is_message(k) {
-        return Err(Refusal::Message);
-    }
-    Ok(())
-}
-
-// The first copy's sender and receiver.
-pub fn first_pair(
-    ss: &[u32],
-    su: u32,
-    sr: u32,
-    rs: &[u32],
-    ru: u32,
-    rr: u32,
-    q: u32,
-    k: u64,
-) -> Result<Pair, Refusal>
-    ensures { told result ≡ first_pair_of ss.now su sr rs.now ru rr q k }
-{
-    first_pair_refusal(ss, su, sr, rs, ru, rr, q, k)?;
-    let sender = first_sender(ss, q, k);
-    let receiver = first_receiver(rs, q, k);
-    Ok(Pair { sender, receiver })
 }

@@ -17,7 +17,7 @@ pub(crate) struct Spot {
     pub(crate) place: u32,
 }
 
-// 1 where a member with this count takes a slot in round t, else 0: what is asked has a name, so that the sums read as the document does.
+// 1 where a member with this count takes a slot in round t, else 0. `hamilton` asks the same of keys: one for both would have neither name.
 pub(crate) fn takes_slot(count: u32, t: u32) -> u32
     ensures { (result ≡ cond (ltb t count) 1 0) × (result ≤ 1) }
 {

@@ -6,6 +6,7 @@ ghost use Rattle.downstream.specs.Formed.{cluster_kept, span_kept, report_kept, 
 
 use crate::columns::{lacking, masks_of, numbers_of};
 use crate::state::{Cluster, Downstream, Entry, Report};
+use shares::LentCluster;
 
 // Whether every one of these shares is zero.
 fn all_zero(shares: &[u32]) -> bool
@@ -22,7 +23,12 @@ pub fn cluster_kept(c: Cluster) -> bool
         return false;
     }
     let (shares, past) = c.shares.split_at(n);
-    let accepted = shares::cluster_refusal(shares, c.u, c.r).is_ok();
+    let lent = LentCluster {
+        shares,
+        u: c.u,
+        r: c.r,
+    };
+    let accepted = lent.refusal().is_ok();
     accepted & all_zero(past)
 }
 

@@ -10,7 +10,7 @@ pub struct Cluster {
 }
 
 // The latest report of a member: cumulative number and mask, and whether it has reported at all. A flag beside them, and no `Option`: document
-// 01 names this form.
+// 01 names the form, number, mask and flag.
 #[derive(Clone, Copy, PartialEq, Eq, Default)]
 pub struct Report {
     pub number: u64,

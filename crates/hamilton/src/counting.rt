@@ -9,6 +9,7 @@ ghost use Rattle.shares.specs.Shares.{total_of};
 use crate::quotas::fill_quotas;
 use crate::ranks::{is_below, threshold};
 use basics::Refusal;
+use shares::LentCluster;
 
 // A lower quota, and one more where the member's key is below the end.
 fn count(quota: u32, key: u32, end: u32) -> u32
@@ -18,13 +19,13 @@ fn count(quota: u32, key: u32, end: u32) -> u32
     quota + is_below(key, end)
 }
 
-// Turns the lower quotas of n members into their counts.
-fn add_leftovers(keys: &[u32; 64], n: usize, end: u32, out: &mut [u32])
-    requires within { (n ≤ 64) × (n ≤ length out.old) }
-    requires small { (i : ℕ) → i < n → get_or out.old i 0 ≤ 1024 }
-    ensures { out.new ≡ list_below n (λ i. get_or out.old i 0 + cond (ltb (get_or keys.now i 0) end) 1 0) ++ drop n out.old }
+// Turns the members' lower quotas into their counts.
+fn add_leftovers(keys: &[u32], end: u32, out: &mut [u32])
+    requires within { length keys.now ≤ length out.old }
+    requires small { (i : ℕ) → i < length keys.now → get_or out.old i 0 ≤ 1024 }
+    ensures { out.new ≡ list_below (length keys.now) (λ i. get_or out.old i 0 + cond (ltb (get_or keys.now i 0) end) 1 0) ++ drop (length keys.now) out.old }
 {
-    for (i, key) in keys[..n].iter().enumerate() {
+    for (i, key) in keys.iter().enumerate() {
         out[i] = count(out[i], *key, end);
     }
 }
@@ -35,10 +36,11 @@ fn fill_counts_of(shares: &[u32], d: u32, q: u32, out: &mut [u32])
     requires total { (d ≡ total_of shares.now) × (length shares.now ≤ length out.old) }
     ensures { out.new ≡ counts_of shares.now q ++ drop (length shares.now) out.old }
 {
-    let mut keys = [0u32; 64];
-    let rest = fill_quotas(shares, q, d, &mut keys, out);
-    let end = threshold(&keys, shares.len(), rest, (d + 1) * 64);
-    add_leftovers(&keys, shares.len(), end, out);
+    let mut places = [0u32; 64];
+    let keys = &mut places[..shares.len()];
+    let rest = fill_quotas(shares, q, d, keys, out);
+    let end = threshold(keys, rest, (d + 1) * 64);
+    add_leftovers(keys, end, out);
 }
 
 // Fills the output with the counts, one place for each member.
@@ -66,12 +68,12 @@ fn later_refusal(q: u32, members: usize, room: usize) -> Result<(), Refusal>
 }
 
 // Hamilton's counts: refused, or the counts in the output's first places.
-pub fn counts(shares: &[u32], u: u32, r: u32, q: u32, out: &mut [u32]) -> Result<(), Refusal>
-    ensures { (outcome_number result ≡ counts_refusal shares.now u r q (length out.old)) × (out.new ≡ counts_out shares.now u r q out.old) }
+pub fn counts(cluster: LentCluster, q: u32, out: &mut [u32]) -> Result<(), Refusal>
+    ensures { (outcome_number result ≡ counts_refusal cluster.entry.shares.now cluster.entry.u cluster.entry.r q (length out.old)) × (out.new ≡ counts_out cluster.entry.shares.now cluster.entry.u cluster.entry.r q out.old) }
 {
-    let cluster = shares::judge_cluster(shares, u, r);
-    cluster.outcome?;
-    later_refusal(q, shares.len(), out.len())?;
-    fill_counts_of(shares, cluster.total, q, out);
+    let judged = cluster.judge();
+    judged.outcome?;
+    later_refusal(q, cluster.shares.len(), out.len())?;
+    fill_counts_of(cluster.shares, judged.total, q, out);
     Ok(())
 }

@@ -1,21 +1,21 @@
 // Which members come first: a number that parts their keys.
-ghost use Rattle.std.specs.Prelude.{◌≡◌, cond, ℕ, ◌+◌, ◌*◌, ◌%◌, ◌≤◌, ◌<◌, ltb, get_or};
+ghost use Rattle.std.specs.Prelude.{◌≡◌, cond, ℕ, ◌+◌, ◌*◌, ◌%◌, ◌≤◌, ◌<◌, ltb, length, get_or};
 ghost use Rattle.basics.specs.Sums.{how_many};
 
-// 1 where the key is below the end, else 0: said once for the number of keys and for the counts.
+// 1 where the key is below the end, else 0. `deal` asks the same of counts: one for both would have neither name.
 pub(crate) fn is_below(key: u32, end: u32) -> u32
     ensures { (result ≡ cond (ltb key end) 1 0) × (result ≤ 1) }
 {
     (key < end) as u32
 }
 
-// How many of n keys are below the end.
-fn below(keys: &[u32; 64], n: usize, end: u32) -> u32
-    requires { n ≤ 64 }
-    ensures { result ≡ how_many n (λ j. ltb (get_or keys.now j 0) end) }
+// How many of the keys are below the end.
+fn below(keys: &[u32], end: u32) -> u32
+    requires { length keys.now ≤ 64 }
+    ensures { result ≡ how_many (length keys.now) (λ j. ltb (get_or keys.now j 0) end) }
 {
     let mut found: u32 = 0;
-    for key in &keys[..n] {
+    for key in keys {
         found += is_below(*key, end);
     }
     found
@@ -44,14 +44,15 @@ fn member_after(member: usize, step: usize, n: usize) -> usize
     if next < n { next } else { next - n }
 }
 
-// A number that just `rest` of n keys are below. No two keys are equal, so that there is one. With equal remainders it is
+// A number that just `rest` of the keys are below. No two keys are equal, so that there is one. With equal remainders it is
 // the key of member `rest`, tried first; then come members far apart, since neighbours with equal shares have nearly equal keys.
-pub(crate) fn threshold(keys: &[u32; 64], n: usize, rest: u32, end: u32) -> u32
-    requires within { (n ≤ 64) × (rest < n) × (end ≤ 64000001 * 64) }
-    requires enough_below { rest < how_many n (λ j. ltb (get_or keys.now j 0) end) }
-    requires different { (i j : ℕ) → i < j → j < n → get_or keys.now i 0 ≡ get_or keys.now j 0 → ⊥ }
-    ensures { rest ≡ how_many n (λ j. ltb (get_or keys.now j 0) result) }
+pub(crate) fn threshold(keys: &[u32], rest: u32, end: u32) -> u32
+    requires within { (length keys.now ≤ 64) × (rest < length keys.now) × (end ≤ 64000001 * 64) }
+    requires enough_below { rest < how_many (length keys.now) (λ j. ltb (get_or keys.now j 0) end) }
+    requires different { (i j : ℕ) → i < j → j < length keys.now → get_or keys.now i 0 ≡ get_or keys.now j 0 → ⊥ }
+    ensures { rest ≡ how_many (length keys.now) (λ j. ltb (get_or keys.now j 0) result) }
 {
+    let n = keys.len();
     if rest == 0 {
         return 0;
     }
@@ -63,7 +64,7 @@ pub(crate) fn threshold(keys: &[u32; 64], n: usize, rest: u32, end: u32) -> u32
     while low + 1 < high {
         let mid = between(keys[member], low, high);
         member = member_after(member, step, n);
-        let found = below(keys, n, mid);
+        let found = below(keys, mid);
         if found == rest {
             return mid;
         }

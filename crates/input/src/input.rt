@@ -25,6 +25,7 @@ const FIRST: usize = 4;
 
 const SECOND: usize = 8;
 
+// Whether record i is there, of kind k, and zero where it must be. Kinds are the document's numbers: the definition `is_kind` takes any.
 fn is_kind(s: &[u8], k: u8, i: usize) -> bool
     ensures { result ≡ is_kind k s.now i }
 {

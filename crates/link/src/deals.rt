@@ -5,12 +5,16 @@ ghost use Rattle.deal.specs.Pairs.{first_pair_of};
 ghost use Rattle.resend.specs.Resends.{resend_pair_of};
 ghost use Rattle.link.specs.Numbers.{pair_numbers, resend_numbers};
 
+use crate::lent::link_of;
+use shares::LentCluster;
+
 // Hamilton's counts, into the output's first places.
 #[unsafe(no_mangle)]
 pub extern "C" fn havdorlek_counts(shares: &[u32], u: u32, r: u32, q: u32, out: &mut [u32]) -> u32
     ensures { (result ≡ counts_refusal shares.now u r q (length out.old)) × (out.new ≡ counts_out shares.now u r q out.old) }
 {
-    basics::outcome_number(hamilton::counts(shares, u, r, q, out))
+    let cluster = LentCluster { shares, u, r };
+    basics::outcome_number(hamilton::counts(cluster, q, out))
 }
 
 // The first copy's sender and receiver.
@@ -28,7 +32,7 @@ pub extern "C" fn havdorlek_first_pair(
 ) -> u32
     ensures { (result ≡ (first_pair_of ss.now su sr rs.now ru rr q k).refusal) × (answer.new ≡ pair_numbers (first_pair_of ss.now su sr rs.now ru rr q k)) }
 {
-    match deal::first_pair(ss, su, sr, rs, ru, rr, q, k) {
+    match link_of(ss, su, sr, rs, ru, rr, q).first_pair(k) {
         Ok(pair) => {
             *answer = [u64::from(pair.sender), u64::from(pair.receiver)];
             0
@@ -56,7 +60,8 @@ pub extern "C" fn havdorlek_resend_pair(
 ) -> u32
     ensures { (result ≡ (resend_pair_of ss.now su sr rs.now ru rr q k n).refusal) × (answer.new ≡ resend_numbers (resend_pair_of ss.now su sr rs.now ru rr q k n)) }
 {
-    match resend::resend_pair(ss, su, sr, rs, ru, rr, q, k, n) {
+    let link = link_of(ss, su, sr, rs, ru, rr, q);
+    match resend::resend_pair(link, k, n) {
         Ok(resend) => {
             *answer = [
                 u64::from(resend.sender),

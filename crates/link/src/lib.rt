@@ -2,6 +2,7 @@
 #![tactic(auto)]
 
 mod deals;
+mod lent;
 mod link_records;
 mod members;
 mod plans;

@@ -4,6 +4,7 @@ ghost use Rattle.window.specs.Opening.{open_of};
 ghost use Rattle.words.specs.Put.{words_of};
 ghost use Rattle.link.specs.Windows.{judge_number, send_number, send_words, report_number, report_verdicts, report_words, report_bytes};
 
+use crate::lent::link_of;
 use basics::Refusal;
 
 // The state of a window that is opened; of zeros where the opening is refused.
@@ -21,9 +22,10 @@ pub extern "C" fn havdorlek_open(
     ensures { (result ≡ (open_of ss.now su sr rs.now ru rr q).refusal) × (window.new ≡ words_of (open_of ss.now su sr rs.now ru rr q).window) }
 {
     words::put_none(window);
-    match deal::pair_refusal(ss, su, sr, rs, ru, rr, q) {
+    let link = link_of(ss, su, sr, rs, ru, rr, q);
+    match link.refusal() {
         Ok(()) => {
-            words::put_opened(ss, su, sr, rs, ru, rr, q, window);
+            words::put_opened(link, window);
             0
         }
         Err(refusal) => refusal.number(),

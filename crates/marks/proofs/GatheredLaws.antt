@@ -68,7 +68,3 @@ pub any_below : (k : ℕ) (xs : List ℕ) → ltb (any_of xs) (2 ^ k) ≡ list_a
 unfolding any_of
 any_below k [] = lt-ltb 0 (2 ^ k) (pow_pos k)
 any_below k (x ∷ xs) = or_below k x (any_of xs) ∙ ap (λ (t : Bool). ltb x (2 ^ k) && t) (any_below k xs)
-
--- a bit of one of them is a bit of it
-pub marked_in_any : (xs : List ℕ) (i b : ℕ) → i < length xs → is_marked (get_or xs i 0) b ≡ true → is_marked (any_of xs) b ≡ true
-marked_in_any xs i b l h = marked_any xs b ∙ list_any_at (λ x. is_marked x b) xs i 0 l h

@@ -6,7 +6,9 @@ ghost use Rattle.planner.specs.Asked.{asking, asked_with};
 ghost use Rattle.planner.specs.Plan.{asked_text, plan_text, text_room};
 
 use basics::Refusal;
+use deal::Link;
 use input::Numbers;
+use shares::LentCluster;
 
 // The bytes that a text may need: `text_room` of the definitions.
 pub const ROOM: usize = 3458;
@@ -19,8 +21,20 @@ fn put_asked(ss: &[u32], rs: &[u32], x: Numbers, out: &mut [u8]) -> usize
     requires { text_room ≤ length out.old }
     ensures { (result ≡ length (asked_text (asking ss.now rs.now x))) × (out.new ≡ put 0 (asked_text (asking ss.now rs.now x)) out.old) }
 {
-    let k = u64::from(x.message);
-    match deal::first_pair(ss, x.su, x.sr, rs, x.ru, x.rr, x.quantum, k) {
+    let link = Link {
+        sending: LentCluster {
+            shares: ss,
+            u: x.su,
+            r: x.sr,
+        },
+        receiving: LentCluster {
+            shares: rs,
+            u: x.ru,
+            r: x.rr,
+        },
+        quantum: x.quantum,
+    };
+    match link.first_pair(u64::from(x.message)) {
         Err(refusal) => lines::put_refused(refusal.number(), out),
         Ok(first) => {
             let at = lines::put_head(first, out);

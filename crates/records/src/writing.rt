@@ -6,7 +6,8 @@ ghost use Rattle.records.specs.Writing.{head_of, bytes_of, write_refusal, writte
 
 use basics::{Refusal, put_number};
 
-// Writes the record with these fields, or says why not and changes nothing. A report is asked for first, since it may have any fields.
+// Writes the record with these fields, or says why not and changes nothing. A report is asked for first, since it may have any fields. The
+// kind is a number, and no `Record`: with that refusals 14 and 15 could not be given.
 #[tactic(auto, using(crate::proofs::WriteLaws::writes))]
 pub fn write(kind: u8, member: u8, number: u64, mask: u64, out: &mut [u8]) -> Result<(), Refusal>
     ensures { (outcome_number result ≡ write_refusal kind member number mask (length out.old)) × (out.new ≡ written_of kind member number mask out.old) }

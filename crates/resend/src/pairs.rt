@@ -5,21 +5,12 @@ ghost use Rattle.resend.specs.Resends.{resend_refusal, resend_pair_of, told};
 
 use basics::Refusal;
 use circle::Resend;
+use deal::Link;
 
-fn resend_refusal(
-    ss: &[u32],
-    su: u32,
-    sr: u32,
-    rs: &[u32],
-    ru: u32,
-    rr: u32,
-    q: u32,
-    k: u64,
-    n: u32,
-) -> Result<(), Refusal>
-    ensures { outcome_number result ≡ resend_refusal ss.now su sr rs.now ru rr q k n }
+fn resend_refusal(link: Link, k: u64, n: u32) -> Result<(), Refusal>
+    ensures { outcome_number result ≡ resend_refusal link.entry.sending.shares.now link.entry.sending.u link.entry.sending.r link.entry.receiving.shares.now link.entry.receiving.u link.entry.receiving.r link.entry.quantum k n }
 {
-    deal::pair_refusal(ss, su, sr, rs, ru, rr, q)?;
+    link.refusal()?;
     if !basics::is_message(k) {
         return Err(Refusal::Message);
     }
@@ -30,20 +21,11 @@ fn resend_refusal(
 }
 
 // Resend n of message k: its two ends and its run.
-pub fn resend_pair(
-    ss: &[u32],
-    su: u32,
-    sr: u32,
-    rs: &[u32],
-    ru: u32,
-    rr: u32,
-    q: u32,
-    k: u64,
-    n: u32,
-) -> Result<Resend, Refusal>
-    ensures { told result ≡ resend_pair_of ss.now su sr rs.now ru rr q k n }
+pub fn resend_pair(link: Link, k: u64, n: u32) -> Result<Resend, Refusal>
+    ensures { told result ≡ resend_pair_of link.entry.sending.shares.now link.entry.sending.u link.entry.sending.r link.entry.receiving.shares.now link.entry.receiving.u link.entry.receiving.r link.entry.quantum k n }
 {
-    resend_refusal(ss, su, sr, rs, ru, rr, q, k, n)?;
-    let first = deal::first_sender(ss, q, k) as usize;
+    resend_refusal(link, k, n)?;
+    let (ss, rs) = (link.sending.shares, link.receiving.shares);
+    let first = deal::first_sender(ss, link.quantum, k) as usize;
     Ok(circle::resend_at(ss, rs, first, n))
 }

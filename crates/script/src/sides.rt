@@ -3,6 +3,8 @@ ghost use Rattle.std.specs.Prelude.{◌≡◌, ◌-◌, if◌then◌else◌, nat
 
 use crate::input;
 use crate::input::Numbers;
+use deal::Link;
+use shares::LentCluster;
 
 // A cluster as a case gives it, accepted or not: how many members, and a share for each.
 #[derive(Clone, Copy)]
@@ -41,6 +43,32 @@ impl Side {
         ensures { result.now ≡ (if nat_le self.now.count 100 then take self.now.count self.now.shares else []) }
     {
         self.shares.get(..self.count).unwrap_or(&[])
+    }
+
+    // The cluster as it is lent to a call.
+    pub fn lent(&self) -> LentCluster<'_>
+        ensures { (result.shares.now ≡ (if nat_le self.now.count 100 then take self.now.count self.now.shares else [])) × (result.u ≡ self.now.u) × (result.r ≡ self.now.r) }
+    {
+        LentCluster {
+            shares: self.members(),
+            u: self.u,
+            r: self.r,
+        }
+    }
+}
+
+impl Sides {
+    // Both clusters, with a quantum.
+    pub fn link(&self, quantum: u32) -> Link<'_>
+        ensures sending { (result.sending.shares.now ≡ (if nat_le self.now.sending.count 100 then take self.now.sending.count self.now.sending.shares else [])) × (result.sending.u ≡ self.now.sending.u) × (result.sending.r ≡ self.now.sending.r) }
+        ensures receiving { (result.receiving.shares.now ≡ (if nat_le self.now.receiving.count 100 then take self.now.receiving.count self.now.receiving.shares else [])) × (result.receiving.u ≡ self.now.receiving.u) × (result.receiving.r ≡ self.now.receiving.r) }
+        ensures quantum { result.quantum ≡ quantum }
+    {
+        Link {
+            sending: self.sending.lent(),
+            receiving: self.receiving.lent(),
+            quantum,
+        }
     }
 }
 

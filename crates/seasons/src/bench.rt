@@ -14,9 +14,10 @@ pub struct Bench {
 
 // Nothing set yet: no members, and a window that was refused.
 pub(crate) fn empty() -> Bench {
-    let window = Window::open(&[], 0, 0, &[], 0, 0, 0).window;
+    let sides = no_sides();
+    let window = Window::open(sides.link(0)).window;
     Bench {
-        sides: no_sides(),
+        sides,
         window,
         kept: window,
         holdings: holdings::fresh(),

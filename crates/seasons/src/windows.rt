@@ -7,8 +7,7 @@ use std::io::Write;
 use window::Window;
 
 pub(crate) fn open(to: &mut impl Write, sides: &Sides, q: u32) -> io::Result<Window> {
-    let (s, t) = (&sides.sending, &sides.receiving);
-    let a = Window::open(s.members(), s.u, s.r, t.members(), t.u, t.r, q);
+    let a = Window::open(sides.link(q));
     say::outcome(to, &a.outcome)?;
     Ok(a.window)
 }

@@ -21,34 +21,44 @@ pub struct Judgement {
     pub total: u32,
 }
 
-// The refusal that a cluster gets: 1, 2, 3 in this order; and the total, which judging finds anyway. It is told whatever the refusal, so
-// that nothing that uses it need wait for the judgement.
-#[tactic(auto, using(crate::proofs::ClusterLaws::judging))]
-pub fn judge_cluster(shares: &[u32], u: u32, r: u32) -> Judgement
-    ensures { told result ≡ cluster_answer shares.now u r }
-{
-    if shares.len() < 1 || 64 < shares.len() {
-        return Judgement {
-            outcome: Err(Refusal::Members),
-            total: 0,
-        };
-    }
-    let all = weigh(shares);
-    let total = all.total;
-    let outcome = if 2_147_483_648 <= all.bits {
-        Err(Refusal::Share)
-    } else if !bounds_fit(total, u, r) {
-        Err(Refusal::Bounds)
-    } else {
-        Ok(())
-    };
-    Judgement { outcome, total }
+// A cluster as its operator lends it, accepted or not: the members' shares, member 0 first, and the bounds u and r, any numbers.
+#[derive(Clone, Copy)]
+pub struct LentCluster<'a> {
+    pub shares: &'a [u32],
+    pub u: u32,
+    pub r: u32,
 }
 
-// The refusal alone.
-#[tactic(auto, using(crate::proofs::ClusterLaws::answer_refusal))]
-pub fn cluster_refusal(shares: &[u32], u: u32, r: u32) -> Result<(), Refusal>
-    ensures { outcome_number result ≡ cluster_refusal shares.now u r }
-{
-    judge_cluster(shares, u, r).outcome
+impl LentCluster<'_> {
+    // The refusal that the cluster gets: 1, 2, 3 in this order; and the total, which judging finds anyway. It is told whatever the refusal,
+    // so that nothing that uses it need wait for the judgement.
+    #[tactic(auto, using(crate::proofs::ClusterLaws::judging))]
+    pub fn judge(self) -> Judgement
+        ensures { told result ≡ cluster_answer self.entry.shares.now self.entry.u self.entry.r }
+    {
+        if self.shares.len() < 1 || 64 < self.shares.len() {
+            return Judgement {
+                outcome: Err(Refusal::Members),
+                total: 0,
+            };
+        }
+        let all = weigh(self.shares);
+        let total = all.total;
+        let outcome = if 2_147_483_648 <= all.bits {
+            Err(Refusal::Share)
+        } else if !bounds_fit(total, self.u, self.r) {
+            Err(Refusal::Bounds)
+        } else {
+            Ok(())
+        };
+        Judgement { outcome, total }
+    }
+
+    // The refusal alone.
+    #[tactic(auto, using(crate::proofs::ClusterLaws::answer_refusal))]
+    pub fn refusal(self) -> Result<(), Refusal>
+        ensures { outcome_number result ≡ cluster_refusal self.entry.shares.now self.entry.u self.entry.r }
+    {
+        self.judge().outcome
+    }
 }

@@ -6,6 +6,6 @@ mod points;
 mod totals;
 mod weighing;
 
-pub use cluster::{Judgement, cluster_refusal, judge_cluster};
+pub use cluster::{Judgement, LentCluster};
 pub use points::{is_point, point};
 pub use totals::{marked_share, share, total};

@@ -21,7 +21,8 @@ pub(crate) struct Weighed {
     pub(crate) total: u32,
 }
 
-// Four shares, of which none waits for another. Written out for speed: a pass over them would add one to the next.
+// Four shares, of which none waits for another. Written out for speed: in a pass each sum would wait for the one
+// before it.
 #[tactic(auto, using(crate::proofs::WeighLaws::bits_four, crate::proofs::WeighLaws::total_four))]
 fn weigh_four(shares: &[u32]) -> Weighed
     requires { 4 ≤ length shares.now }

@@ -5,12 +5,12 @@ use std::io;
 use std::io::Write;
 
 pub(crate) fn cluster(to: &mut impl Write, s: &Side) -> io::Result<()> {
-    say::outcome(to, &shares::cluster_refusal(s.members(), s.u, s.r))
+    say::outcome(to, &s.lent().refusal())
 }
 
 pub(crate) fn counts(to: &mut impl Write, s: &Side, q: u32, room: usize) -> io::Result<()> {
     let mut places = [7; 100];
     let out = places.get_mut(..room).unwrap_or(&mut []);
-    say::outcome(to, &hamilton::counts(s.members(), s.u, s.r, q, out))?;
+    say::outcome(to, &hamilton::counts(s.lent(), q, out))?;
     say::list(to, out)
 }

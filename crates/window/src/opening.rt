@@ -4,7 +4,9 @@ ghost use Rattle.window.specs.Opening.{cluster_from, window_from, no_cluster, no
 
 use crate::state::Window;
 use basics::Refusal;
+use deal::Link;
 use downstream::{Cluster, Downstream, Entry, Report};
+use shares::LentCluster;
 
 // Whether the opening is accepted, and the state: of zeros where it is refused, as document 01 hands it back, so that no `Result` of the
 // state would do.
@@ -25,15 +27,15 @@ fn places(shares: &[u32]) -> [u32; 64]
 }
 
 // A cluster as the state keeps it.
-fn cluster_from(shares: &[u32], u: u32, r: u32) -> Cluster
-    requires { length shares.now ≤ 64 }
-    ensures { result ≡ cluster_from shares.now u r }
+fn cluster_from(lent: LentCluster) -> Cluster
+    requires { length lent.shares.now ≤ 64 }
+    ensures { result ≡ cluster_from lent.entry.shares.now lent.entry.u lent.entry.r }
 {
     Cluster {
-        members: shares.len() as u32,
-        u,
-        r,
-        shares: places(shares),
+        members: lent.shares.len() as u32,
+        u: lent.u,
+        r: lent.r,
+        shares: places(lent.shares),
     }
 }
 
@@ -76,26 +78,18 @@ fn no_window() -> Window
 
 impl Window {
     // Opens a window between two lent clusters.
-    pub fn open(
-        ss: &[u32],
-        su: u32,
-        sr: u32,
-        rs: &[u32],
-        ru: u32,
-        rr: u32,
-        quantum: u32,
-    ) -> OpenAnswer
-        ensures { told result ≡ open_of ss.now su sr rs.now ru rr quantum }
+    pub fn open(link: Link) -> OpenAnswer
+        ensures { told result ≡ open_of link.entry.sending.shares.now link.entry.sending.u link.entry.sending.r link.entry.receiving.shares.now link.entry.receiving.u link.entry.receiving.r link.entry.quantum }
     {
-        match deal::pair_refusal(ss, su, sr, rs, ru, rr, quantum) {
+        match link.refusal() {
             Err(refusal) => OpenAnswer {
                 outcome: Err(refusal),
                 window: no_window(),
             },
             Ok(()) => {
-                let sending = cluster_from(ss, su, sr);
-                let receiving = cluster_from(rs, ru, rr);
-                let window = window_from(sending, receiving, quantum);
+                let sending = cluster_from(link.sending);
+                let receiving = cluster_from(link.receiving);
+                let window = window_from(sending, receiving, link.quantum);
                 OpenAnswer {
                     outcome: Ok(()),
                     window,

@@ -62,12 +62,6 @@ module _ (ws : List ℕ) (at n : ℕ) (few : n ≤ 64) where
       ap (λ (m : ℕ). all_below m (λ i. is_share (get_or shares i 0))) shares_length
       ∙ all_cong (λ i. is_share (get_or shares i 0)) (λ i. is_share (word_at ws (at + i))) n (λ i l. ap is_share (shares_at i l)))
 
-  pub total_in_words : sum_below n (λ i. word_at ws (at + i)) ≡ total_of shares
-  unfolding total_of
-  total_in_words = sym (
-      ap (λ (m : ℕ). sum_below m (λ i. get_or shares i 0)) shares_length
-      ∙ sum_cong (λ i. get_or shares i 0) (λ i. word_at ws (at + i)) n shares_at)
-
 -- ---- the bounds
 module _ (s : List ℕ) (u r d : ℕ) (e : d ≡ total_of s) where
   pub bounds_far : d < u → false ≡ bounds_fit s u r

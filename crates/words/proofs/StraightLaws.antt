@@ -53,5 +53,3 @@ off_start p = refl
 
 pub off_turn : (p : ℕ → Bool) (i off x : ℕ) → eqb off 0 ≡ all_below i p → eqb x 0 ≡ p i → eqb (bit_or off x) 0 ≡ all_below (i + 1) p
 off_turn p i off x a b = or_zero off x ∙ all_turn p {i = i} a b
-
-pub ruleset offs = (off_start, off_turn, rules)

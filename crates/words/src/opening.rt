@@ -4,6 +4,9 @@ ghost use Rattle.basics.specs.Sums.{list_below};
 ghost use Rattle.window.specs.Opening.{cluster_from, window_from, no_window};
 ghost use Rattle.words.specs.Put.{zeros, cluster_words, words_of};
 
+use deal::Link;
+use shares::LentCluster;
+
 // The lent shares; past their end the places stay zero.
 fn put_shares(shares: &[u32], out: &mut [u64])
     requires { (length shares.now ≤ 64) × (length out.old ≡ 64) × (out.old ≡ zeros 64) }
@@ -14,12 +17,13 @@ fn put_shares(shares: &[u32], out: &mut [u64])
     }
 }
 
-fn put_cluster(shares: &[u32], u: u32, r: u32, out: &mut [u64])
-    requires { (length shares.now ≤ 64) × (length out.old ≡ 67) × (out.old ≡ zeros 67) }
-    ensures { out.new ≡ cluster_words (cluster_from shares.now u r) }
+fn put_cluster(lent: LentCluster, out: &mut [u64])
+    requires { (length lent.shares.now ≤ 64) × (length out.old ≡ 67) × (out.old ≡ zeros 67) }
+    ensures { out.new ≡ cluster_words (cluster_from lent.entry.shares.now lent.entry.u lent.entry.r) }
 {
-    put_shares(shares, &mut out[3..67]);
-    out[0..3].copy_from_slice(&[shares.len() as u64, u64::from(u), u64::from(r)]);
+    put_shares(lent.shares, &mut out[3..67]);
+    let members = lent.shares.len() as u64;
+    out[0..3].copy_from_slice(&[members, u64::from(lent.u), u64::from(lent.r)]);
 }
 
 // The words of a refused opening: all at once, which takes less time than part by part.
@@ -31,20 +35,11 @@ pub fn put_none(words: &mut [u64; 457])
 
 // The words of a window between two clusters that is just opened, put into those of no window: only what is not zero need be put then.
 // inner: for accepted clusters, which have at most 64 members, and words that were made those of a refused opening before.
-pub fn put_opened(
-    ss: &[u32],
-    su: u32,
-    sr: u32,
-    rs: &[u32],
-    ru: u32,
-    rr: u32,
-    q: u32,
-    words: &mut [u64; 457],
-)
-    requires { (length ss.now ≤ 64) × (length rs.now ≤ 64) × (words.old ≡ words_of no_window) }
-    ensures { words.new ≡ words_of (window_from (cluster_from ss.now su sr) (cluster_from rs.now ru rr) q) }
+pub fn put_opened(link: Link, words: &mut [u64; 457])
+    requires { (length link.sending.shares.now ≤ 64) × (length link.receiving.shares.now ≤ 64) × (words.old ≡ words_of no_window) }
+    ensures { words.new ≡ words_of (window_from (cluster_from link.entry.sending.shares.now link.entry.sending.u link.entry.sending.r) (cluster_from link.entry.receiving.shares.now link.entry.receiving.u link.entry.receiving.r) link.entry.quantum) }
 {
-    put_cluster(ss, su, sr, &mut words[0..67]);
-    put_cluster(rs, ru, rr, &mut words[67..134]);
-    words[134..137].copy_from_slice(&[u64::from(q), 0, 0]);
+    put_cluster(link.sending, &mut words[0..67]);
+    put_cluster(link.receiving, &mut words[67..134]);
+    words[134..137].copy_from_slice(&[u64::from(link.quantum), 0, 0]);
 }

@@ -16,5 +16,5 @@ unfolding places_zero
 returns c =
     let a = c.args.c in
     let zero : c.all_zero.result ≡ list_all (λ x. eqb x 0) (drop a.members a.shares) = search rules in
-    rw (c.is_ok-accepted.ensures.value, done c.cluster_refusal.result)
-    (cluster_judged a (outcome_number c.cluster_refusal.result) c.all_zero.result (search rules) (search rules) (zero ∙ all_behind _ 0 a.members 64 a.shares (search rules) (search rules)))
+    rw (c.is_ok-accepted.ensures.value, done c.refusal.result)
+    (cluster_judged a (outcome_number c.refusal.result) c.all_zero.result (search rules) (search rules) (zero ∙ all_behind _ 0 a.members 64 a.shares (search rules) (search rules)))

@@ -1,9 +1,4 @@
--- A key's place among the first n is its place among all.
-use Prim.Native.Nat.{◌<◌}
-use mathlib.Core.Path.{◌≡◌}
-use native.Mathlib.Omega.{arith}
-use lib.ListN.{length, take, length-set, length-take}
-use Rattle.std.proofs.lemmas.List.{get_or-take}
+use lib.ListN.{length, length-set}
 use Rattle.basics.proofs.SumLaws.{list_start}
 use Rattle.hamilton.proofs.CountLaws.{list_done, unread_small, leftover_turn}
 use borrow.Author.Rules.{rules}
@@ -17,20 +12,7 @@ count-requires c = search (unread_small, c.requires.small, rules)
 
 pub loop-i-preserved : goal.loop-i-preserved
 loop-i-preserved c =
-    let within : c.loop-i.i < c.args.n = omega (arith, simp length-take at c.loop-i-test.true) in (
-      simp length-set (search rules),
-      leftover_turn
-          c.args.keys.now
-          c.args.end
-          c.loop-i.i
-          c.args.n
-          c.count.result
-          c.loop-i.out
-          c.args.out.now
-          within (search rules) (search rules) (search rules) (rw get_or-take at c.count.ensures),
-    )
+    (simp length-set (search rules), leftover_turn _ _ _ (length c.args.keys.now) _ c.loop-i.out c.args.out.now (search rules) (search rules) (search rules) (search rules) c.count.ensures)
 
 pub returns : goal.returns
-returns c =
-    let all : length (take c.args.n c.args.keys.now) ≡ c.args.n = simp length-take (omega arith) in
-    list_done _ c.loop-i.i c.args.n c.loop-i.out c.args.out.now c.loop-i.invariant.1 (omega arith) (omega arith)
+returns c = search (list_done, rules)

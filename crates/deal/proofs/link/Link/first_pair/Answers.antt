@@ -1,7 +1,7 @@
 -- A refusal comes with zeros; otherwise both clusters can be dealt.
 use Rattle.basics.proofs.RefusalLaws.{passed, handed_on, not_zero}
 use Rattle.deal.proofs.PairLaws.{deals_sending, deals_receiving, pair_refused, pair_answered}
-use Rattle.deal.proofs.pairs.first_pair.Goals as goal
+use Rattle.deal.proofs.link.Link.first_pair.Goals as goal
 
 pub returns-in_err-first_pair_refusal : goal.returns-in_err-first_pair_refusal
 returns-in_err-first_pair_refusal c =
