@@ -55,7 +55,7 @@ number_placed TooEarly = refl
 number_placed BadlyBuilt = refl
 
 -- the way back from the number
-abbrev refusal_at : ℕ → Refusal
+abbrev pub refusal_at : ℕ → Refusal
 refusal_at n =
     cond (eqb n 1) Members (
     cond (eqb n 2) Share (
@@ -77,7 +77,7 @@ refusal_at n =
     cond (eqb n 18) TooEarly (
     BadlyBuilt))))))))))))))))))
 
-number_back : (x : Refusal) → refusal_at (number_of x) ≡ x
+pub number_back : (x : Refusal) → refusal_at (number_of x) ≡ x
 number_back Members = refl
 number_back Share = refl
 number_back Bounds = refl

@@ -1,7 +1,7 @@
 -- One turn as a table: a step put into it, the table of a turn that is whole, and the resends that are read from it. Assumes nothing.
 use mathlib.Core.Path.{◌≡◌, refl, ap, ap₂, sym, ◌∙◌}
 use mathlib.Core.Logic.{inl, inr}
-use mathlib.Core.Bool.{cond}
+use mathlib.Core.Bool.{Bool, true, cond}
 use mathlib.Core.List.{List}
 use Prim.Native.Nat.{ℕ, ◌+◌, ◌-◌, ◌*◌, ◌%◌, ◌≤◌, ◌<◌}
 use native.Mathlib.Decide.{dec_lt, ℕ_discrete}
@@ -14,7 +14,7 @@ use borrow.Author.Tests.{eqb-true, eq-eqb, ne_eqb, lt-ltb, le-ltb}
 use Rattle.basics.proofs.BoolLaws.{bool_cases}
 use Rattle.circle.specs.Stretches.{units_before, end_of, owner_of, end_after, place_of, following}
 use Rattle.circle.specs.Circle.{circle_units, factor_of, send_layout, start_of, unit_of, sender_of, receiver_of}
-use Rattle.circle.specs.Positions.{Sized, circle_of, position_at, position_of, resend_of}
+use Rattle.circle.specs.Positions.{Sized, circle_of, position_at, position_of, same_position, resend_of}
 use Rattle.circle.specs.TurnTable.{FirstSteps, TurnTable, ends_of}
 use Rattle.circle.specs.declared.walk.Circle.{Circle}
 use Rattle.circle.specs.declared.walk.Position.{Position}
@@ -23,7 +23,7 @@ use Rattle.circle.specs.declared.table.Ends.{Ends}
 use Rattle.circle.proofs.StretchLaws.{before_none, before_more, before_all, before_le, end_owner, end_gt, scaled_at}
 use Rattle.circle.proofs.CircleLaws.{send_full, send_some, send_length, stretches_some}
 use Rattle.circle.proofs.WalkLaws.{unit_in, unit_first, sender_in}
-use Rattle.circle.proofs.PeriodLaws.{shifted, turned}
+use Rattle.circle.proofs.PeriodLaws.{same_position_lem, shifted, turned}
 
 -- ---- the step with which a stretch begins, and that of a resend
 module _ (left w whole j before : ℕ) (e : whole ≡ w) where
@@ -179,6 +179,28 @@ no_steps ss rs a =
       receives = λ k h. absurd (omega arith);
       starts = λ m h t. absurd (omega (arith, t, get_or-replicate {A = ℕ} 64 m 128 0 (omega (arith, a.few_members))));
     }
+
+-- ---- the whole turn
+pub turn_back : (ss rs xs ys zs : List ℕ) (j : ℕ) (first at : Position) (same : Bool) → FirstSteps ss rs xs ys zs (j + 1) → j < 128
+    → first ≡ position_of ss rs (length ss - 1) 1 → at ≡ position_of ss rs (length ss - 1) (j + 1 + 1) → same ≡ same_position at first → same ≡ true → TurnTable ss rs xs ys zs (j + 1)
+turn_back ss rs xs ys zs j first at same w few ef ea es t = record { walked = w; few = omega arith; back = sym ea ∙ same_position_lem at first (sym es ∙ t) ∙ ef }
+
+module _ (ss rs xs ys zs : List ℕ) (j : ℕ) (w : FirstSteps ss rs xs ys zs j) where
+  -- no turn
+  pub turn_none : TurnTable ss rs xs ys zs 0
+  turn_none =
+      record {
+        walked = record {
+          senders_room = w.senders_room;
+          receivers_room = w.receivers_room;
+          begins_room = w.begins_room;
+          sends = λ k h. absurd (omega arith);
+          receives = λ k h. absurd (omega arith);
+          starts = w.starts;
+        };
+        few = omega arith;
+        back = refl;
+      }
 
 -- ---- a resend that the table does not have
 pub ends_told : (ss rs : List ℕ) (i n : ℕ) (r : Resend) → r ≡ resend_of ss rs i n → ◌≡◌ {A = Ends} (record { sender = r.sender; receiver = r.receiver }) (ends_of ss rs i n)

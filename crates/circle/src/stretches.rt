@@ -15,7 +15,7 @@ pub(crate) fn stretch(shares: &[u32], factor: u64, i: usize) -> u64
     requires { (factor ≤ 64000000) × (i < length shares.now) }
     ensures { result ≡ factor * get_or shares.now i 0 }
 {
-    factor * u64::from(shares[i])
+    factor * basics::wide(shares[i])
 }
 
 // The unit where member i's stretch ends, on a circle of l units.

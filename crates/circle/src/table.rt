@@ -16,23 +16,26 @@ pub struct Ends {
 
 // The steps of a walk from unit 0, where resend 1 of the last member starts: the two ends of each, and for each member the step with which
 // its stretch begins, 128 where none does. Numbers, and two columns, because `TurnTable` speaks of them: places that are never read hold any.
-#[derive(Drop)]
-struct Steps {
-    senders: [u32; 128],
-    receivers: [u32; 128],
-    begins: [u32; 64],
+#[derive(Clone, Copy)]
+pub struct Steps {
+    pub senders: [u32; 128],
+    pub receivers: [u32; 128],
+    pub begins: [u32; 64],
 }
 
-// One turn between two clusters: so many steps, after which the walk is back; 0 where it is not back within 128, as `TurnTable` has it.
-#[derive(Drop)]
+// One turn between two clusters: so many steps, after which the walk is back; 0 where it is not back within 128, as `TurnTable` has it. The
+// columns are lent: they stay where they were filled, since moving them would cost as much stack again each time.
+#[derive(Clone, Copy)]
 pub struct Table<'a> {
     pub ss: &'a [u32],
     pub rs: &'a [u32],
-    steps: Steps,
-    count: u32,
+    pub senders: &'a [u32],
+    pub receivers: &'a [u32],
+    pub begins: &'a [u32],
+    pub count: u32,
     pub ghost sending: { Sized ss.now },
     pub ghost receiving: { Sized rs.now },
-    pub ghost table: { TurnTable ss.now rs.now steps.senders steps.receivers steps.begins count },
+    pub ghost table: { TurnTable ss.now rs.now senders.now receivers.now begins.now count },
 }
 
 // The step with which the stretch at a place begins: step j where the whole of the stretch is left, else the one known before.
@@ -73,7 +76,8 @@ impl Steps {
 
     // The steps of one turn, and how many; 0 where the walk is not back within 128. A turn has fewer, by `OneTurn`, but who reads the table
     // walks where it has no answer, and so nothing rests on that.
-    fn walk(&mut self, ss: &[u32], rs: &[u32]) -> u32
+    // inner: for the shares of accepted clusters, and columns in which no stretch has begun.
+    pub fn walk(&mut self, ss: &[u32], rs: &[u32]) -> u32
         requires { (Sized ss.now) × (Sized rs.now) × (FirstSteps ss.now rs.now self.old.senders self.old.receivers self.old.begins 0) }
         ensures { TurnTable ss.now rs.now self.new.senders self.new.receivers self.new.begins result }
     {
@@ -90,39 +94,19 @@ impl Steps {
     }
 }
 
-impl<'a> Table<'a> {
-    // The turn of two clusters.
-    // inner: for the shares of accepted clusters.
-    pub fn of(ss: &'a [u32], rs: &'a [u32]) -> Table<'a>
-        requires { (Sized ss.now) × (Sized rs.now) }
-        ensures { (result.ss.now ≡ ss.now) × (result.rs.now ≡ rs.now) }
-    {
-        let mut steps = Steps {
-            senders: [0; 128],
-            receivers: [0; 128],
-            begins: [128; 64],
-        };
-        let count = steps.walk(ss, rs);
-        Table {
-            ss,
-            rs,
-            steps,
-            count,
-        }
-    }
-
+impl Table<'_> {
     // The ends of resend n, the original sender being member i: from the table, or walked where the table does not have them.
     // inner: for a member of the sending cluster; n is one more than a count of at most 255.
     pub fn ends(&self, i: usize, n: u32) -> Ends
         requires { (i < length self.now.ss.now) × (1 ≤ n) × (n ≤ 256) }
         ensures { result ≡ ends_of self.now.ss.now self.now.rs.now i n }
     {
-        let begin = self.steps.begins[member_after(self.ss.len(), i)];
+        let begin = self.begins[member_after(self.ss.len(), i)];
         if begin < self.count {
             let j = step_of(begin, n, self.count) as usize;
             return Ends {
-                sender: self.steps.senders[j],
-                receiver: self.steps.receivers[j],
+                sender: self.senders[j],
+                receiver: self.receivers[j],
             };
         }
         let resend = resend_at(self.ss, self.rs, i, n);

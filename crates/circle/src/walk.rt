@@ -60,7 +60,7 @@ pub fn start(ss: &[u32], rs: &[u32], c: Circle, i: usize) -> Position
 fn run_at(at: Position) -> u64
     ensures { result ≡ run_at at }
 {
-    at.sender.left.min(at.receiver.left)
+    basics::least(at.sender.left, at.receiver.left)
 }
 
 // Where the resend after the one at a position starts: resend n + 1 from resend n, whatever the original sender.

@@ -7,13 +7,13 @@ use crate::slots::{spot_of, takes_slot};
 
 // A deal in progress: the counts of an accepted cluster, which fill the quantum, and the place that it stands at: a slot, a round, and a
 // member from which on the slot may fall to someone.
-#[derive(Drop)]
+#[derive(Clone, Copy)]
 pub struct Dealer<'a> {
     pub counts: &'a [u32],
     pub q: u32,
     pub slot: u32,
-    round: u32,
-    member: u32,
+    pub round: u32,
+    pub member: u32,
     pub ghost few: { length counts.now ≤ 64 },
     pub ghost dealing: { Dealing counts.now q slot round member },
 }
@@ -77,7 +77,7 @@ impl<'a> Dealer<'a> {
     }
 
     // On to the member to whom the slot falls: in this round, or in the next, since no later round has a slot if that has none.
-    fn fall(&mut self)
+    pub fn fall(&mut self)
         ensures same { (self.new.counts.now ≡ self.old.counts.now) × (self.new.q ≡ self.old.q) × (self.new.slot ≡ self.old.slot) }
         ensures owner { self.new.member ≡ owner_of self.old.counts.now self.old.q self.old.slot }
         ensures fallen { Fallen self.old.counts.now self.old.q self.old.slot self.new.round self.new.member }
@@ -93,7 +93,8 @@ impl<'a> Dealer<'a> {
     }
 
     // On to the next slot, after the last one the first again.
-    fn pass(&mut self)
+    // inner: from the member to whom the slot falls.
+    pub fn pass(&mut self)
         requires { Fallen self.old.counts.now self.old.q self.old.slot self.old.round self.old.member }
         ensures { (self.new.counts.now ≡ self.old.counts.now) × (self.new.q ≡ self.old.q) × (self.new.slot ≡ (self.old.slot + 1) % self.old.q) }
     {

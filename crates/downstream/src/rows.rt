@@ -31,5 +31,5 @@ pub fn steady_until(changing: u64, o: u64, n: u64) -> u64
     ensures { SteadyUntil changing o n result }
 {
     let still = u64::from(marks::run(!marks::past(changing, o)));
-    (o + still + 1).min(n)
+    basics::least(o + still + 1, n)
 }

@@ -4,7 +4,7 @@ ghost use Rattle.basics.specs.Refusals.{outcome_number};
 ghost use Rattle.holdings.specs.Arrival.{risen_of, taken_of, arrival_refusal, arrival_of, told};
 
 use crate::state::{Holdings, well_formed};
-use basics::{Refusal, is_message};
+use basics::{Refusal, is_message, wide};
 use marks::{mark, past, run};
 
 // The first check that fails, if any.
@@ -30,7 +30,7 @@ fn risen(number: u64, mask: u64) -> Holdings
     requires { number ≤ 1000000000000 }
     ensures { result ≡ risen_of number mask }
 {
-    let rise = u64::from(run(mask));
+    let rise = wide(run(mask));
     Holdings {
         number: number + rise,
         mask: past(mask, rise),

@@ -15,8 +15,8 @@ use Rattle.records.specs.Writing.{write_refusal, written_of}
 use Rattle.records.specs.declared.Record.{Record}
 use Rattle.records.specs.declared.Record.TheVariants.{Unused, Report, Arrival, Private}
 use Rattle.basics.specs.declared.refusal.Refusal.{Refusal}
-use Rattle.basics.specs.Refusals.{outcome_number}
-use Rattle.basics.proofs.RefusalLaws.{number_some, one_number, one_outcome}
+use Rattle.basics.specs.Refusals.{number_of, outcome_number}
+use Rattle.basics.proofs.RefusalLaws.{refusal_at, number_back, not_zero}
 use Rattle.std.specs.Prelude.{Result, Ok, Err}
 
 -- what `read` ensures of its answer
@@ -33,6 +33,12 @@ record_back t =
     cond (eqb t.kind 0) Unused
     (cond (eqb t.kind 1) (Report t.member t.number t.mask)
     (cond (eqb t.kind 2) (Arrival t.member t.number) (Private t.kind)))
+
+read_back : Told → Result Record Refusal
+read_back t = cond (eqb t.refusal 0) (Ok (record_back t)) (Err (refusal_at t.refusal))
+
+write_back : ℕ → Result Unit Refusal
+write_back n = cond (eqb n 0) (Ok tt) (Err (refusal_at n))
 
 record_back_lem : (x : Record) → is_proper (Ok x) ≡ true → record_back (told (Ok x)) ≡ x
 unfolding record_back told is_private
@@ -51,16 +57,19 @@ is_told (Report m n w) = refl
 is_told (Arrival m n) = refl
 is_told (Private k) = refl
 
-one_told : (r r' : Result Record Refusal) → is_proper r ≡ true → is_proper r' ≡ true → told r ≡ told r' → r ≡ r'
-unfolding told
-one_told (Ok x) (Ok y) p q e = ap Ok (sym (record_back_lem x p) ∙ ap record_back e ∙ record_back_lem y q)
-one_told (Ok x) (Err y) p q e = absurd (omega (arith, number_some y, is_told x, ap (λ (t : Told). t.refusal) e))
-one_told (Err x) (Ok y) p q e = absurd (omega (arith, number_some x, is_told y, ap (λ (t : Told). t.refusal) e))
-one_told (Err x) (Err y) p q e = ap Err (one_number x y (ap (λ (t : Told). t.refusal) e))
+read_back_lem : (r : Result Record Refusal) → is_proper r ≡ true → read_back (told r) ≡ r
+unfolding read_back told
+read_back_lem (Ok x) p = simp (is_told x) (ap Ok (record_back_lem x p))
+read_back_lem (Err x) p = simp (ne_eqb (number_of x) 0 (not_zero x)) (ap Err (number_back x))
+
+write_back_lem : (r : Result Unit Refusal) → write_back (outcome_number r) ≡ r
+unfolding write_back
+write_back_lem (Ok u) = refl
+write_back_lem (Err x) = simp (ne_eqb (number_of x) 0 (not_zero x)) (ap Err (number_back x))
 
 -- ---- the theorems
 pub one_read : (s : List ℕ) (r r' : Result Record Refusal) → ReadMeets s r → ReadMeets s r' → r ≡ r'
-one_read s r r' a b = one_told r r' a.1 b.1 (a.0 ∙ sym b.0)
+one_read s r r' a b = sym (read_back_lem r a.1) ∙ ap read_back (a.0 ∙ sym b.0) ∙ read_back_lem r' b.1
 
 pub one_write : (k m n w : ℕ) (s o o' : List ℕ) (r r' : Result Unit Refusal) → WriteMeets k m n w s r o → WriteMeets k m n w s r' o' → (r ≡ r') × (o ≡ o')
-one_write k m n w s o o' r r' a b = (one_outcome r r' (a.0 ∙ sym b.0), a.1 ∙ sym b.1)
+one_write k m n w s o o' r r' a b = (sym (write_back_lem r) ∙ ap write_back (a.0 ∙ sym b.0) ∙ write_back_lem r', a.1 ∙ sym b.1)

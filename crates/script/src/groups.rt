@@ -29,7 +29,7 @@ fn record(group: &[u64]) -> [u8; 12] {
 impl Unit {
     // How many numbers a group has.
     fn width(self) -> usize
-        ensures { 0 < result }
+        ensures { (0 < result) × (result ≤ 4) }
     {
         match self {
             Unit::Byte => 2,
@@ -37,34 +37,20 @@ impl Unit {
         }
     }
 
-    // How many bytes of the input one has.
-    fn size(self) -> usize
-        ensures { 0 < result }
-    {
+    // How many bytes of the input a group gives.
+    fn length(self, group: &[u64]) -> usize {
+        let often = number_at(group, 0) as usize;
         match self {
-            Unit::Byte => 1,
-            Unit::Record => 12,
+            Unit::Byte => often,
+            Unit::Record => often.saturating_mul(12),
         }
     }
 
-    // The group of the one that byte i of the input belongs to; none past the last.
-    fn group_of(self, groups: &[u64], i: usize) -> Option<&[u64]> {
-        let mut rest = (i / self.size()) as u64;
-        for group in groups.chunks(self.width()) {
-            let often = number_at(group, 0);
-            if rest < often {
-                return Some(group);
-            }
-            rest -= often;
-        }
-        None
-    }
-
-    // Byte i of the input, by its group.
-    fn byte(self, group: &[u64], i: usize) -> u8 {
+    // The bytes that a group gives again and again: a record's, or one byte's twelve times.
+    fn bytes(self, group: &[u64]) -> [u8; 12] {
         match self {
-            Unit::Byte => input::byte(number_at(group, 1)),
-            Unit::Record => record(group)[i % 12],
+            Unit::Byte => [input::byte(number_at(group, 1)); 12],
+            Unit::Record => record(group),
         }
     }
 }
@@ -73,11 +59,14 @@ impl Unit {
 pub fn fill(unit: Unit, groups: &[u64], bytes: &mut [u8]) -> usize
     ensures { result ≤ length bytes.old }
 {
-    for (i, byte) in bytes.iter_mut().enumerate() {
-        let Some(group) = unit.group_of(groups, i) else {
-            return i;
-        };
-        *byte = unit.byte(group, i);
+    let mut done: usize = 0;
+    for group in groups.chunks(unit.width()) {
+        let end = bytes.len().min(done.saturating_add(unit.length(group)));
+        let given = unit.bytes(group);
+        for (i, byte) in bytes[done..end].iter_mut().enumerate() {
+            *byte = given[i % 12];
+        }
+        done = end;
     }
-    bytes.len()
+    done
 }

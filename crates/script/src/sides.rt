@@ -58,6 +58,20 @@ impl Side {
 }
 
 impl Sides {
+    // sending u r shares: what the next cases get as the sending cluster; the other stays.
+    pub fn put_sending(&mut self, args: &Numbers)
+        ensures { (self.new.sending.count ≡ args.now.count - 2) × (self.new.receiving ≡ self.old.receiving) }
+    {
+        self.sending = Side::of(args);
+    }
+
+    // receiving u r shares: the same of the receiving one.
+    pub fn put_receiving(&mut self, args: &Numbers)
+        ensures { (self.new.sending ≡ self.old.sending) × (self.new.receiving.count ≡ args.now.count - 2) }
+    {
+        self.receiving = Side::of(args);
+    }
+
     // Both clusters, with a quantum.
     pub fn link(&self, quantum: u32) -> Link<'_>
         ensures sending { (result.sending.shares.now ≡ (if nat_le self.now.sending.count 100 then take self.now.sending.count self.now.sending.shares else [])) × (result.sending.u ≡ self.now.sending.u) × (result.sending.r ≡ self.now.sending.r) }

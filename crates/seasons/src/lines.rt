@@ -5,7 +5,6 @@ use crate::{bench, edits, members, show, windows};
 use script::input::{Numbers, short};
 use script::lines::run_each;
 use script::say;
-use script::sides::Side;
 use std::io;
 use std::io::Write;
 
@@ -13,8 +12,8 @@ use std::io::Write;
 fn answer(to: &mut impl Write, b: &mut Bench, word: Word, args: &Numbers) -> io::Result<()> {
     let w = &mut b.window;
     match word {
-        Word::Sending => b.sides.sending = Side::of(args),
-        Word::Receiving => b.sides.receiving = Side::of(args),
+        Word::Sending => b.sides.put_sending(args),
+        Word::Receiving => b.sides.put_receiving(args),
         Word::Open => *w = windows::open(to, &b.sides, short(args.at[1]))?,
         Word::Send => windows::send(to, w, args.at[1])?,
         Word::Report => windows::report(to, w, args)?,

@@ -12,7 +12,7 @@ pub fn total(shares: &[u32]) -> u64
 {
     let mut sum: u64 = 0;
     for share in shares {
-        sum += u64::from(*share);
+        sum += basics::wide(*share);
     }
     sum
 }

@@ -13,8 +13,8 @@ use std::io::Write;
 fn answer(to: &mut impl Write, sides: &mut Sides, word: Word, args: &Numbers) -> io::Result<()> {
     let (a, b, c) = (args.at[1], args.at[2], args.at[3]);
     match word {
-        Word::Sending => sides.sending = Side::of(args),
-        Word::Receiving => sides.receiving = Side::of(args),
+        Word::Sending => sides.put_sending(args),
+        Word::Receiving => sides.put_receiving(args),
         Word::Cluster => clusters::cluster(to, &Side::of(args))?,
         Word::Counts => clusters::counts(to, &sides.sending, short(a), b as usize)?,
         Word::Pair => pairs::pair(to, sides, short(a))?,

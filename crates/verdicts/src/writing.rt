@@ -4,7 +4,7 @@ ghost use Rattle.hamilton.specs.Hamilton.{Dealable};
 ghost use Rattle.circle.specs.Positions.{Sized};
 ghost use Rattle.verdicts.specs.Written.{verdict_bytes, verdict_from, verdicts_to, verdicts_of, verdict_count, Ready, Writing};
 
-use circle::Table;
+use circle::{Steps, Table};
 use deal::Dealer;
 use downstream::{Cluster, Downstream, counts_of};
 
@@ -78,7 +78,20 @@ pub fn verdicts_between(
 {
     let mut places = [0u32; 64];
     hamilton::fill_counts(ss, q, &mut places);
-    let table = Table::of(ss, rs);
+    let mut steps = Steps {
+        senders: [0; 128],
+        receivers: [0; 128],
+        begins: [128; 64],
+    };
+    let count = steps.walk(ss, rs);
+    let table = Table {
+        ss,
+        rs,
+        senders: &steps.senders,
+        receivers: &steps.receivers,
+        begins: &steps.begins,
+        count,
+    };
     let members = ss.len();
     let dealer = Dealer::at(&places[..members], q, (p % (q as u64)) as u32);
     put_verdicts(out, due, &table, dealer, counts, p, n)

@@ -13,7 +13,7 @@ fn put_shares(shares: &[u32], out: &mut [u64])
     ensures { out.new ≡ list_below 64 (λ i. get_or shares.now i 0) }
 {
     for (i, share) in shares.iter().enumerate() {
-        out[i] = u64::from(*share);
+        out[i] = basics::wide(*share);
     }
 }
 

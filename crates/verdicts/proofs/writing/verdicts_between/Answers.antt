@@ -1,8 +1,13 @@
--- The counts in the local array, cut to the members, are those of the sending cluster, and fill the quantum.
+-- The counts in the local array, cut to the members, are those of the sending cluster, and fill the quantum. The columns of the table are made
+-- with no step in them.
+use Rattle.circle.proofs.TableLaws.{no_steps}
 use Rattle.deal.proofs.PairLaws.{slot_fits, slot_below, places_few, places_whole}
 use Rattle.verdicts.proofs.WriteLaws.{counts_cut, counts_ready}
 use borrow.Author.Rules.{rules}
 use Rattle.verdicts.proofs.writing.verdicts_between.Goals as goal
+
+pub walk-count-requires : goal.walk-count-requires
+walk-count-requires c = (search rules, search rules, search no_steps)
 
 pub slice_bounds-at-end : goal.slice_bounds-at-end
 slice_bounds-at-end c = search (counts_cut, rules)
@@ -15,6 +20,5 @@ at-dealer-requires c = (search (places_few, rules), search (places_whole, rules)
 
 pub put_verdicts-requires-clause-ready : goal.put_verdicts-requires-clause-ready
 put_verdicts-requires-clause-ready c =
-    let t = c.of-table.ensures in
     let d = c.at-dealer.ensures in
-    (rw (t.0, t.1, d.0, d.1) (search counts_ready), rw d.1 d.2)
+    (rw (d.0, d.1) (search counts_ready), rw d.1 d.2)
