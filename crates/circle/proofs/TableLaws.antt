@@ -80,7 +80,7 @@ module _ (ss rs : List ℕ) (a : Sized ss) (b : Sized rs) where
         rw m (omega (arith, left, end_owner s x (omega (arith, send_full ss rs)), before_more s (owner_of s x), end_gt s x (omega (arith, send_full ss rs))))
 
     module _ (xs ys zs : List ℕ) (w : FirstSteps ss rs xs ys zs j) (few : j < 128) where
-      step_begin : at.sender.member < length zs
+      pub step_begin : at.sender.member < length zs
       step_begin = omega (arith, step_member, w.begins_room)
 
       pub step_put : (r : ℕ) → r ≡ cond (eqb at.sender.left (c.send * get_or ss at.sender.member 0)) j (get_or zs at.sender.member 0)

@@ -8,5 +8,5 @@ mod walk;
 
 pub use euclid::{divisor, multiple};
 pub use stretches::Place;
-pub use table::{Ends, Steps, Table};
+pub use table::{Ends, Table, fill_turn};
 pub use walk::{Circle, Position, Resend, circle_of, next, resend_at, resend_from, start};

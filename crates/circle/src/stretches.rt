@@ -37,7 +37,7 @@ pub fn locate(shares: &[u32], factor: u64, x: u64) -> Place
 {
     let mut rest = x;
     for (i, share) in shares.iter().enumerate() {
-        let width = factor * u64::from(*share);
+        let width = factor * basics::wide(*share);
         if rest < width {
             return Place {
                 member: i as u32,

@@ -14,17 +14,10 @@ pub struct Ends {
     pub receiver: u32,
 }
 
-// The steps of a walk from unit 0, where resend 1 of the last member starts: the two ends of each, and for each member the step with which
-// its stretch begins, 128 where none does. Numbers, and two columns, because `TurnTable` speaks of them: places that are never read hold any.
-#[derive(Clone, Copy)]
-pub struct Steps {
-    pub senders: [u32; 128],
-    pub receivers: [u32; 128],
-    pub begins: [u32; 64],
-}
-
-// One turn between two clusters: so many steps, after which the walk is back; 0 where it is not back within 128, as `TurnTable` has it. The
-// columns are lent: they stay where they were filled, since moving them would cost as much stack again each time.
+// One turn between two clusters: so many steps, after which the walk is back; 0 where it is not back within 128, as `TurnTable` has it. Of the
+// walk from unit 0, where resend 1 of the last member starts, the columns have the two ends of each step, and for each member the step with
+// which its stretch begins, 128 or more where none does. They are lent, and stay where they were filled: moved, they would cost as much stack
+// again each time. Places that are never read hold any number.
 #[derive(Clone, Copy)]
 pub struct Table<'a> {
     pub ss: &'a [u32],
@@ -59,39 +52,52 @@ fn step_of(begin: u32, n: u32, steps: u32) -> u32
     step % steps
 }
 
-impl Steps {
-    // Step j, which starts at a position, put behind those before it; and where the next step starts.
-    fn put(&mut self, ss: &[u32], rs: &[u32], c: Circle, at: Position, j: u32) -> Position
-        requires sized { (Sized ss.now) × (Sized rs.now) × (c ≡ circle_of ss.now rs.now) × (at ≡ position_of ss.now rs.now (length ss.now - 1) (j + 1)) × (j < 128) }
-        requires first_steps { FirstSteps ss.now rs.now self.old.senders self.old.receivers self.old.begins j }
-        ensures value { result ≡ position_of ss.now rs.now (length ss.now - 1) (j + 1 + 1) }
-        ensures more_steps { FirstSteps ss.now rs.now self.new.senders self.new.receivers self.new.begins (j + 1) }
-    {
-        let m = at.sender.member as usize;
-        self.senders[j as usize] = at.sender.member;
-        self.receivers[j as usize] = at.receiver.member;
-        self.begins[m] = begin_at(ss, c.send, at.sender, j, self.begins[m]);
-        next(ss, rs, c, at)
-    }
+// Step j, which starts at a position, put into the columns behind those before it; and where the next step starts.
+fn put_step(
+    ss: &[u32],
+    rs: &[u32],
+    c: Circle,
+    at: Position,
+    j: u32,
+    senders: &mut [u32],
+    receivers: &mut [u32],
+    begins: &mut [u32],
+) -> Position
+    requires sized { (Sized ss.now) × (Sized rs.now) × (c ≡ circle_of ss.now rs.now) × (at ≡ position_of ss.now rs.now (length ss.now - 1) (j + 1)) × (j < 128) }
+    requires first_steps { FirstSteps ss.now rs.now senders.old receivers.old begins.old j }
+    ensures value { result ≡ position_of ss.now rs.now (length ss.now - 1) (j + 1 + 1) }
+    ensures more_steps { FirstSteps ss.now rs.now senders.new receivers.new begins.new (j + 1) }
+{
+    let m = at.sender.member as usize;
+    senders[j as usize] = at.sender.member;
+    receivers[j as usize] = at.receiver.member;
+    begins[m] = begin_at(ss, c.send, at.sender, j, begins[m]);
+    next(ss, rs, c, at)
+}
 
-    // The steps of one turn, and how many; 0 where the walk is not back within 128. A turn has fewer, by `OneTurn`, but who reads the table
-    // walks where it has no answer, and so nothing rests on that.
-    // inner: for the shares of accepted clusters, and columns in which no stretch has begun.
-    pub fn walk(&mut self, ss: &[u32], rs: &[u32]) -> u32
-        requires { (Sized ss.now) × (Sized rs.now) × (FirstSteps ss.now rs.now self.old.senders self.old.receivers self.old.begins 0) }
-        ensures { TurnTable ss.now rs.now self.new.senders self.new.receivers self.new.begins result }
-    {
-        let c = circle_of(ss, rs);
-        let first = start(ss, rs, c, ss.len() - 1);
-        let mut at = first;
-        for j in 0..128 {
-            at = self.put(ss, rs, c, at, j);
-            if at == first {
-                return j + 1;
-            }
+// The columns of one turn, and its steps; 0 where the walk is not back within 128. A turn has fewer, by `OneTurn`, but who reads the table
+// walks where it has no answer, and so nothing rests on that.
+// inner: for the shares of accepted clusters, and room for the columns, in which no stretch has begun.
+pub fn fill_turn(
+    ss: &[u32],
+    rs: &[u32],
+    senders: &mut [u32],
+    receivers: &mut [u32],
+    begins: &mut [u32],
+) -> u32
+    requires { (Sized ss.now) × (Sized rs.now) × (FirstSteps ss.now rs.now senders.old receivers.old begins.old 0) }
+    ensures { TurnTable ss.now rs.now senders.new receivers.new begins.new result }
+{
+    let c = circle_of(ss, rs);
+    let first = start(ss, rs, c, ss.len() - 1);
+    let mut at = first;
+    for j in 0..128 {
+        at = put_step(ss, rs, c, at, j, senders, receivers, begins);
+        if at == first {
+            return j + 1;
         }
-        0
     }
+    0
 }
 
 impl Table<'_> {

@@ -4,7 +4,7 @@ ghost use Rattle.hamilton.specs.Hamilton.{Dealable};
 ghost use Rattle.circle.specs.Positions.{Sized};
 ghost use Rattle.verdicts.specs.Written.{verdict_bytes, verdict_from, verdicts_to, verdicts_of, verdict_count, Ready, Writing};
 
-use circle::{Steps, Table};
+use circle::Table;
 use deal::Dealer;
 use downstream::{Cluster, Downstream, counts_of};
 
@@ -78,18 +78,16 @@ pub fn verdicts_between(
 {
     let mut places = [0u32; 64];
     hamilton::fill_counts(ss, q, &mut places);
-    let mut steps = Steps {
-        senders: [0; 128],
-        receivers: [0; 128],
-        begins: [128; 64],
-    };
-    let count = steps.walk(ss, rs);
+    let mut senders = [0; 128];
+    let mut receivers = [0; 128];
+    let mut begins = [128; 64];
+    let count = circle::fill_turn(ss, rs, &mut senders, &mut receivers, &mut begins);
     let table = Table {
         ss,
         rs,
-        senders: &steps.senders,
-        receivers: &steps.receivers,
-        begins: &steps.begins,
+        senders: &senders,
+        receivers: &receivers,
+        begins: &begins,
         count,
     };
     let members = ss.len();

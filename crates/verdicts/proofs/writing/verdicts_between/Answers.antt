@@ -6,8 +6,8 @@ use Rattle.verdicts.proofs.WriteLaws.{counts_cut, counts_ready}
 use borrow.Author.Rules.{rules}
 use Rattle.verdicts.proofs.writing.verdicts_between.Goals as goal
 
-pub walk-count-requires : goal.walk-count-requires
-walk-count-requires c = (search rules, search rules, search no_steps)
+pub fill_turn-count-requires : goal.fill_turn-count-requires
+fill_turn-count-requires c = (search rules, search rules, search no_steps)
 
 pub slice_bounds-at-end : goal.slice_bounds-at-end
 slice_bounds-at-end c = search (counts_cut, rules)

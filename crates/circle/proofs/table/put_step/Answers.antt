@@ -1,17 +1,17 @@
 -- The ends go behind those of the steps before, and a stretch that is whole begins here.
 use Rattle.circle.proofs.PositionLaws.{send_fits, on_circle}
 use Rattle.circle.proofs.PeriodLaws.{walk_next}
-use Rattle.circle.proofs.TableLaws.{step_member, step_few, step_put}
-use Rattle.circle.proofs.table.Steps.put.Goals as goal
+use Rattle.circle.proofs.TableLaws.{step_member, step_begin, step_put}
+use Rattle.circle.proofs.table.put_step.Goals as goal
 
-pub bounds-self-m : goal.bounds-self-m
-bounds-self-m c = search step_few
+pub bounds-begins-m : goal.bounds-begins-m
+bounds-begins-m c = search step_begin
 
 pub begin_at-requires : goal.begin_at-requires
 begin_at-requires c = (search send_fits, search step_member)
 
-pub bounds-self-m-2 : goal.bounds-self-m-2
-bounds-self-m-2 c = search step_few
+pub bounds-begins-m-2 : goal.bounds-begins-m-2
+bounds-begins-m-2 c = search step_begin
 
 pub next-requires : goal.next-requires
 next-requires c = search on_circle
